@@ -1,0 +1,85 @@
+//! The archive under test, as include/prunepocket.h declares it.
+
+use crate::items::Refusal;
+
+#[repr(C)]
+struct RawRefusal {
+    number: u64,
+    place: u64,
+}
+
+extern "C" {
+    fn prunepocket_count_items(datagram: *const u8, length: usize, count: *mut u64) -> RawRefusal;
+    fn prunepocket_item_field(
+        datagram: *const u8,
+        length: usize,
+        index: u64,
+        field: u64,
+        value: *mut u64,
+    ) -> RawRefusal;
+    fn prunepocket_read_items(
+        datagram: *const u8,
+        length: usize,
+        rows: *mut u64,
+        rows_length: usize,
+        count: *mut u64,
+    ) -> RawRefusal;
+}
+
+impl RawRefusal {
+    /// Only number 0 with place 0 says that the call was not refused.
+    fn answer(self) -> Result<(), Refusal> {
+        match (self.number, self.place) {
+            (0, 0) => Ok(()),
+            (number, place) => Err(Refusal { number, place }),
+        }
+    }
+}
+
+/// The address of an object, also for an empty slice.
+fn address(datagram: &[u8]) -> *const u8 {
+    static NOTHING: u8 = 0;
+    match datagram {
+        [] => &NOTHING,
+        _ => datagram.as_ptr(),
+    }
+}
+
+/// Lends `count`, so that a caller can see that a refusal leaves it alone.
+pub fn count_items(datagram: &[u8], count: &mut u64) -> Result<(), Refusal> {
+    // SAFETY: pointers and lengths come from live slices and references.
+    unsafe { prunepocket_count_items(address(datagram), datagram.len(), count) }.answer()
+}
+
+/// Lends `value`, so that a caller can see that a refusal leaves it alone.
+pub fn item_field(
+    datagram: &[u8],
+    index: u64,
+    field: u64,
+    value: &mut u64,
+) -> Result<(), Refusal> {
+    // SAFETY: as for count_items.
+    unsafe { prunepocket_item_field(address(datagram), datagram.len(), index, field, value) }
+        .answer()
+}
+
+/// Lends `rows` and `count`; both are as before after a refusal.
+pub fn read_items(datagram: &[u8], rows: &mut [u64], count: &mut u64) -> Result<(), Refusal> {
+    let mut nothing = 0;
+    let rows_length = rows.len();
+    let rows = match rows {
+        [] => &mut nothing as *mut u64,
+        _ => rows.as_mut_ptr(),
+    };
+    // SAFETY: as for count_items; `rows` has `rows_length` numbers behind it.
+    unsafe {
+        prunepocket_read_items(
+            address(datagram),
+            datagram.len(),
+            rows,
+            rows_length,
+            count,
+        )
+    }
+    .answer()
+}
