@@ -52,12 +52,7 @@ pub fn count_items(datagram: &[u8], count: &mut u64) -> Result<(), Refusal> {
 }
 
 /// Lends `value`, so that a caller can see that a refusal leaves it alone.
-pub fn item_field(
-    datagram: &[u8],
-    index: u64,
-    field: u64,
-    value: &mut u64,
-) -> Result<(), Refusal> {
+pub fn item_field(datagram: &[u8], index: u64, field: u64, value: &mut u64) -> Result<(), Refusal> {
     // SAFETY: as for count_items.
     unsafe { prunepocket_item_field(address(datagram), datagram.len(), index, field, value) }
         .answer()
@@ -65,21 +60,13 @@ pub fn item_field(
 
 /// Lends `rows` and `count`; both are as before after a refusal.
 pub fn read_items(datagram: &[u8], rows: &mut [u64], count: &mut u64) -> Result<(), Refusal> {
-    let mut nothing = 0;
+    let mut nothing = 0u64;
     let rows_length = rows.len();
     let rows = match rows {
         [] => &mut nothing as *mut u64,
         _ => rows.as_mut_ptr(),
     };
     // SAFETY: as for count_items; `rows` has `rows_length` numbers behind it.
-    unsafe {
-        prunepocket_read_items(
-            address(datagram),
-            datagram.len(),
-            rows,
-            rows_length,
-            count,
-        )
-    }
-    .answer()
+    unsafe { prunepocket_read_items(address(datagram), datagram.len(), rows, rows_length, count) }
+        .answer()
 }

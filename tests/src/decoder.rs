@@ -47,7 +47,7 @@ pub fn decode(datagram: &[u8]) -> Result<Vec<PlacedItem>, Refusal> {
 pub fn decode_with(datagram: &[u8], fault: Option<Fault>) -> Result<Vec<PlacedItem>, Refusal> {
     let length = datagram.len();
     // Refusal 1: the length is 0, not a multiple of 4, or over 2,048; place 0.
-    if length == 0 || length % 4 != 0 || length > 2048 {
+    if length == 0 || !length.is_multiple_of(4) || length > 2048 {
         return Err(Refusal::new(1, 0));
     }
     let decoder = Decoder { datagram, fault };

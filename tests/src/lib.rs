@@ -1,5 +1,5 @@
-//! The independent side: a decoder written from the papers alone, a seeded
-//! generator of datagrams, and the comparison of both with libprunepocket.a.
+//! The independent side: a decoder of document 01's rules, a seeded generator
+//! of datagrams, and their comparison with libprunepocket.a.
 
 pub mod archive;
 pub mod cases;

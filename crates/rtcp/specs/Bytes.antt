@@ -1,4 +1,4 @@
--- The fields of a datagram. Numbers are big-endian; a byte past the end reads as 0.
+-- The fields of a datagram. Numbers are big-endian. A byte past the end reads as 0, which no check lets an item see.
 use Prim.Native.Nat.{ℕ, _+_, _*_, _^_}
 use mathlib.Core.List.{List}
 use lib.ListN.{getD}
@@ -10,11 +10,11 @@ byte d at = getD d at 0
 abbrev pub joined : ℕ → ℕ → ℕ → ℕ → ℕ
 joined a b c e = a * 2 ^ 24 + b * 2 ^ 16 + c * 2 ^ 8 + e
 
-abbrev pub be16 : List ℕ → ℕ → ℕ
+unfoldable pub be16 : List ℕ → ℕ → ℕ
 be16 d at = byte d at * 2 ^ 8 + byte d (at + 1)
 
-abbrev pub be32 : List ℕ → ℕ → ℕ
+unfoldable pub be32 : List ℕ → ℕ → ℕ
 be32 d at = joined (byte d at) (byte d (at + 1)) (byte d (at + 2)) (byte d (at + 3))
 
-abbrev pub be64 : List ℕ → ℕ → ℕ
+unfoldable pub be64 : List ℕ → ℕ → ℕ
 be64 d at = be32 d at * 2 ^ 32 + be32 d (at + 4)

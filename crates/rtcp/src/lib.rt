@@ -2,10 +2,16 @@
 // item at an index, and a cursor over all of them. Every call takes any bytes and answers with a refusal where the
 // datagram breaks a rule.
 mod bytes;
-mod item;
+mod cursor;
+mod packet;
+mod report;
+mod settings;
+mod walk;
 
-pub use item::Item;
-pub use item::Placed;
-pub use item::Refusal;
-pub use item::Report;
-pub use item::Settings;
+pub use cursor::Cursor;
+pub use cursor::next_item;
+pub use cursor::Step;
+pub use walk::count_items;
+pub use walk::item_at;
+pub use walk::Count;
+pub use walk::Found;

@@ -1,0 +1,108 @@
+//! The datagrams that are timed.
+
+/// Datagrams that are timed together, and their name.
+pub struct Input {
+    pub name: &'static str,
+    pub datagrams: Vec<Vec<u8>>,
+}
+
+const NOISE: usize = 512;
+
+pub fn inputs() -> Vec<Input> {
+    vec![
+        one("RR + XR, 1 IDMS block", idms_blocks(1)),
+        one("farewells", farewells(2048)),
+        one("RR + XR, 50 IDMS blocks", idms_blocks(50)),
+        one("four-byte XR blocks", short_blocks(2048)),
+        Input {
+            name: "noise (average)",
+            datagrams: noise(),
+        },
+    ]
+}
+
+fn one(name: &'static str, datagram: Vec<u8>) -> Input {
+    Input {
+        name,
+        datagrams: vec![datagram],
+    }
+}
+
+/// An RR of 8 bytes with count 0.
+fn receiver_report() -> Vec<u8> {
+    vec![0x80, 201, 0, 1, 0, 0, 0, 1]
+}
+
+fn put_header(datagram: &mut Vec<u8>, count: usize, packet_type: u8, words: usize) {
+    let length = (words - 1) as u16;
+    datagram.extend([0x80 | count as u8, packet_type]);
+    datagram.extend(length.to_be_bytes());
+}
+
+/// An RR, then one XR packet of reports, which differ in their times.
+pub fn idms_blocks(blocks: usize) -> Vec<u8> {
+    let mut datagram = receiver_report();
+    put_header(&mut datagram, 0, 207, 2 + 8 * blocks);
+    datagram.extend(20u32.to_be_bytes());
+    for block in 0..blocks as u32 {
+        let words = [
+            0x0C11_0007,
+            0x4200_0000,
+            42,
+            7,
+            998 + block,
+            0,
+            8_820_000 + 90_000 * block,
+            0x03E6_C000 + (block << 16),
+        ];
+        datagram.extend(words.iter().flat_map(|word| word.to_be_bytes()));
+    }
+    datagram
+}
+
+/// An RR, then BYE packets of 31 sources and one of the remainder.
+pub fn farewells(length: usize) -> Vec<u8> {
+    let mut datagram = receiver_report();
+    while datagram.len() + 8 <= length {
+        let words = ((length - datagram.len()) / 4).min(32);
+        put_header(&mut datagram, words - 1, 203, words);
+        for source in 1..words as u32 {
+            datagram.extend(source.to_be_bytes());
+        }
+    }
+    datagram
+}
+
+/// An RR, then one XR packet of blocks with length 0.
+pub fn short_blocks(length: usize) -> Vec<u8> {
+    let mut datagram = receiver_report();
+    put_header(&mut datagram, 0, 207, (length - 8) / 4);
+    datagram.extend(20u32.to_be_bytes());
+    while datagram.len() < length {
+        datagram.extend([4, 0, 0, 0]);
+    }
+    datagram
+}
+
+fn noise() -> Vec<Vec<u8>> {
+    let mut random = Random(0x7272);
+    (0..NOISE)
+        .map(|_| {
+            let length = random.below(2049);
+            (0..length).map(|_| random.below(256) as u8).collect()
+        })
+        .collect()
+}
+
+/// SplitMix64.
+pub struct Random(pub u64);
+
+impl Random {
+    pub fn below(&mut self, bound: usize) -> usize {
+        self.0 = self.0.wrapping_add(0x9E37_79B9_7F4A_7C15);
+        let mut mixed = self.0;
+        mixed = (mixed ^ (mixed >> 30)).wrapping_mul(0xBF58_476D_1CE4_E5B9);
+        mixed = (mixed ^ (mixed >> 27)).wrapping_mul(0x94D0_49BB_1331_11EB);
+        ((mixed ^ (mixed >> 31)) >> 16) as usize % bound
+    }
+}

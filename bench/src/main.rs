@@ -1,0 +1,185 @@
+//! Times the archive beside the peer. There is no pass or fail, but the two
+//! have to agree on the inputs before anything is timed.
+
+mod archive;
+mod inputs;
+mod peer;
+
+use inputs::{Input, Random};
+use peer::{Refusal, ROW};
+use std::hint::black_box;
+use std::time::{Duration, Instant};
+
+/// A round is about as long as this, and the best of the rounds counts.
+const ROUND: Duration = Duration::from_millis(8);
+const ROUNDS: usize = 20;
+
+/// Altered copies of each input on which the two have to agree as well.
+const ALTERED: usize = 20_000;
+
+/// Numbers of an array that holds the rows of every datagram.
+const NUMBERS: usize = ROW * 512;
+
+type Count = fn(&[u8]) -> Result<u64, Refusal>;
+type Read = fn(&[u8], &mut [u64]) -> Result<u64, Refusal>;
+
+fn main() {
+    let inputs = inputs::inputs();
+    for input in &inputs {
+        agree_on(input);
+    }
+    println!("nanoseconds per datagram, best of {ROUNDS} interleaved rounds");
+    print_inputs("count", &inputs, time_counts);
+    print_inputs("all items", &inputs, time_reads);
+    print_growth("farewells", inputs::farewells);
+    print_growth("four-byte XR blocks", inputs::short_blocks);
+}
+
+/// Panics where the archive and the peer differ on an input, or on copies of
+/// it with altered bytes and lengths.
+fn agree_on(input: &Input) {
+    let mut random = Random(0x3611);
+    for datagram in &input.datagrams {
+        agree(datagram);
+    }
+    for _ in 0..ALTERED {
+        let mut datagram = input.datagrams[random.below(input.datagrams.len())].clone();
+        for _ in 0..random.below(4).min(datagram.len()) {
+            let at = random.below(datagram.len().min(64));
+            datagram[at] ^= 1 << random.below(8);
+        }
+        datagram.truncate(4 * (1 + random.below(512)));
+        agree(&datagram);
+    }
+}
+
+fn agree(datagram: &[u8]) {
+    let count = archive::count_items(datagram);
+    assert_eq!(count, peer::count_items(datagram), "{datagram:?}");
+    let exact = ROW * count.unwrap_or(0) as usize;
+    for length in [exact, exact + 1, exact.saturating_sub(1)] {
+        let mut ours = vec![u64::MAX; length];
+        let mut peers = ours.clone();
+        let answer = archive::read_items(datagram, &mut ours);
+        assert_eq!(answer, peer::read_items(datagram, &mut peers));
+        assert_eq!(ours, peers, "{datagram:?}");
+    }
+}
+
+fn print_inputs(title: &str, inputs: &[Input], time: fn(&Input) -> (f64, f64)) {
+    println!();
+    println!(
+        "{title:<32}{:>8}{:>8}{:>10}{:>10}{:>12}",
+        "bytes", "items", "ours ns", "peer ns", "ours/peer"
+    );
+    for input in inputs {
+        let (ours, peers) = time(input);
+        let bytes: usize = input.datagrams.iter().map(Vec::len).sum();
+        let items: u64 = input.datagrams.iter().map(|datagram| items(datagram)).sum();
+        println!(
+            "{:<32}{:>8}{:>8}{ours:>10.1}{peers:>10.1}{:>12.2}",
+            input.name,
+            bytes / input.datagrams.len(),
+            items / input.datagrams.len() as u64,
+            ours / peers
+        );
+    }
+}
+
+/// The items of a datagram, none where it is refused.
+fn items(datagram: &[u8]) -> u64 {
+    archive::count_items(datagram).unwrap_or(0)
+}
+
+/// Shows that reading all items grows in proportion to the length.
+fn print_growth(name: &'static str, make: fn(usize) -> Vec<u8>) {
+    println!();
+    println!(
+        "{:<32}{:>8}{:>8}{:>10}{:>10}{:>10}{:>10}",
+        format!("all items, {name}"),
+        "bytes",
+        "items",
+        "ours ns",
+        "per byte",
+        "peer ns",
+        "per byte"
+    );
+    for length in [256, 512, 1024, 2048] {
+        let datagrams = vec![make(length)];
+        let input = Input { name, datagrams };
+        let (ours, peers) = time_reads(&input);
+        let bytes = length as f64;
+        println!(
+            "{:<32}{length:>8}{:>8}{ours:>10.1}{:>10.3}{peers:>10.1}{:>10.3}",
+            "",
+            items(&input.datagrams[0]),
+            ours / bytes,
+            peers / bytes
+        );
+    }
+}
+
+fn time_counts(input: &Input) -> (f64, f64) {
+    let pass = |count: Count| {
+        for datagram in &input.datagrams {
+            use_up(count(black_box(datagram)));
+        }
+    };
+    let ours = || pass(archive::count_items);
+    let peers = || pass(peer::count_items);
+    interleaved(input.datagrams.len(), ours, peers)
+}
+
+fn time_reads(input: &Input) -> (f64, f64) {
+    let mut rows = vec![0; NUMBERS];
+    let mut other_rows = rows.clone();
+    let pass = |read: Read, rows: &mut [u64]| {
+        for datagram in &input.datagrams {
+            use_up(read(black_box(datagram), black_box(&mut *rows)));
+        }
+    };
+    let ours = || pass(archive::read_items, &mut rows);
+    let peers = || pass(peer::read_items, &mut other_rows);
+    interleaved(input.datagrams.len(), ours, peers)
+}
+
+/// Looks at every number of an answer. To hand the whole answer to black_box
+/// would copy it, and that copy costs more than a short datagram.
+fn use_up(answer: Result<u64, Refusal>) {
+    black_box(match answer {
+        Ok(count) => count,
+        Err(refusal) => refusal.number ^ refusal.place,
+    });
+}
+
+/// Nanoseconds per datagram of both sides, each the best of its rounds.
+fn interleaved(datagrams: usize, mut ours: impl FnMut(), mut peers: impl FnMut()) -> (f64, f64) {
+    // The first rounds warm up and tell how many passes fill a round.
+    let passes = passes_in_a_round(&mut ours).max(passes_in_a_round(&mut peers));
+    let mut best = (f64::MAX, f64::MAX);
+    for _ in 0..ROUNDS {
+        best.0 = round(passes, &mut ours).min(best.0);
+        best.1 = round(passes, &mut peers).min(best.1);
+    }
+    let datagrams = datagrams as f64;
+    (best.0 / datagrams, best.1 / datagrams)
+}
+
+fn passes_in_a_round(pass: &mut impl FnMut()) -> u32 {
+    let start = Instant::now();
+    let mut passes = 0;
+    while start.elapsed() < ROUND {
+        pass();
+        passes += 1;
+    }
+    passes
+}
+
+/// Nanoseconds per pass.
+fn round(passes: u32, pass: &mut impl FnMut()) -> f64 {
+    let start = Instant::now();
+    for _ in 0..passes {
+        pass();
+    }
+    start.elapsed().as_nanos() as f64 / f64::from(passes)
+}

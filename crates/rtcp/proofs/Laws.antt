@@ -1,0 +1,4 @@
+pub mod Types
+pub mod Walk
+pub mod Packet
+pub mod Blocks

@@ -1,0 +1,42 @@
+use borrow.Author.Needs.{needs}
+use Rattle.rtcp.proofs.walk.count_packet.Statement.{statement}
+use Rattle.rtcp.proofs.walk.count_packet.Tie as tie
+use Rattle.rtcp.proofs.walk.count_packet.Reads as reads
+use Rattle.rtcp.proofs.walk.count_packet.Lts as lts
+use Rattle.rtcp.proofs.packet.head_at.Reads as head-at-reads
+use Rattle.rtcp.proofs.walk.count_content.Reads as count-content-reads
+
+-- src/walk.rt:79:11
+head-at-requires : tie.Need-head-at-requires
+head-at-requires c κs = search needs
+
+-- src/walk.rt:80:24
+enum-known-number : tie.Need-enum-known-number
+enum-known-number c = search needs
+
+-- src/walk.rt:81:21
+enum-known-h : tie.Need-enum-known-h
+enum-known-h c = search needs
+
+-- src/walk.rt:81:27
+count-content-requires : tie.Need-count-content-requires
+count-content-requires c κs = ?
+
+-- src/walk.rt:75:1
+returns : tie.Need-returns
+returns c = ?
+
+-- src/walk.rt:75:1
+returns-2 : tie.Need-returns-2
+returns-2 c = search needs
+
+pub count-packet-spec : {M : Type 1} → statement M
+count-packet-spec =
+    tie.close
+    (tie.spec
+    head-at-requires
+    enum-known-number
+    enum-known-h
+    count-content-requires
+    returns
+    returns-2)

@@ -1,0 +1,82 @@
+-- A cursor over the items of a datagram, and what it gives next. A cursor that the datagram did not give (one of another
+-- datagram, or one whose numbers were made up) ends where a check of the walk would refuse.
+use Prim.Native.Nat.{ℕ, suc, zero, _+_, _-_, _*_}
+use mathlib.Core.List.{List, [], _∷_}
+use mathlib.Core.Bool.{Bool, cond, _||_}
+use lib.ListN.{length}
+use lib.Dec.{ltb, leb}
+use Rattle.idms.specs.declared.Placed.{Placed}
+use Rattle.rtcp.specs.declared.cursor.Cursor.{Cursor}
+use Rattle.rtcp.specs.declared.cursor.Step.{Step}
+use Rattle.rtcp.specs.declared.cursor.Advance.{Advance}
+use Rattle.rtcp.specs.Refusals.{Check, passed, refused}
+use Rattle.rtcp.specs.Bytes.{be32}
+use Rattle.rtcp.specs.Packet.{byType, packetType, count, size, content, headCheck}
+use Rattle.rtcp.specs.Report.{blockSize, blockCheck, blockItems}
+use Rattle.rtcp.specs.Settings.{settingsItem}
+use Rattle.rtcp.specs.Farewell.{farewellItem}
+
+-- the packet behind p
+abbrev pub past : List ℕ → ℕ → Cursor
+past d p = Cursor.Packet (p + size d p)
+
+-- a packet is taken apart by its type
+unfoldable pub entered : List ℕ → ℕ → Advance
+entered d p =
+    byType (packetType d p)
+    (Advance.Onward (past d p))
+    (Advance.Onward (past d p))
+    (Advance.Onward (Cursor.Sources (p + 4) (p + (4 + 4 * count d p)) (p + size d p)))
+    (Advance.Onward (Cursor.Blocks (be32 d (p + 4)) (p + 8) (p + content d p) (p + size d p)))
+    (Advance.Item (settingsItem d p) (past d p))
+    (Advance.Onward (past d p))
+
+-- what lies from `at` to `stop` is no whole word of this datagram
+abbrev pub torn : List ℕ → ℕ → ℕ → Bool
+torn d at stop = ltb (length d) stop || ltb (stop - at) 4
+
+-- the item of a part, if it gives one, and the cursor behind it
+abbrev pub offered : List Placed → Cursor → Advance
+offered [] c = Advance.Onward c
+offered (x ∷ xs) c = Advance.Item x c
+
+abbrev pub unlessRefused : Check → Advance → Advance
+unlessRefused passed a = a
+unlessRefused (refused number place) a = Advance.End
+
+-- one step over a packet's head, a source or a block
+unfoldable pub advance : List ℕ → Cursor → Advance
+advance d (Cursor.Packet p) = cond (ltb (length d - p) 4) Advance.End (unlessRefused (headCheck d p) (entered d p))
+advance d (Cursor.Sources at stop next) =
+    cond (leb stop at) (Advance.Onward (Cursor.Packet next))
+    (cond (torn d at stop) Advance.End
+    (Advance.Item (farewellItem d at) (Cursor.Sources (at + 4) stop next)))
+advance d (Cursor.Blocks sender at stop next) =
+    cond (leb stop at) (Advance.Onward (Cursor.Packet next))
+    (cond (torn d at stop) Advance.End
+    (unlessRefused (blockCheck d stop at)
+    (offered (blockItems d sender at) (Cursor.Blocks sender (at + blockSize d at) stop next))))
+
+-- what is left to step over
+abbrev pub left : List ℕ → Cursor → ℕ
+left d (Cursor.Packet p) = 2 * (length d - p)
+left d (Cursor.Sources at stop next) = suc (stop - at + 2 * (length d - next))
+left d (Cursor.Blocks sender at stop next) = suc (stop - at + 2 * (length d - next))
+
+-- steps up to the first item; the first argument bounds their number
+unfoldable pub seek : ℕ → List ℕ → Cursor → Step
+seek zero d c = Step.End
+seek (suc k) d c =
+    elim (advance d c) [
+      Advance.Item x next ↦ Step.Item x next
+      | Advance.Onward next ↦ seek k d next
+      | Advance.End ↦ Step.End
+    ]
+
+-- the next item and the cursor behind it, or the end
+unfoldable pub nextOf : List ℕ → Cursor → Step
+nextOf d c = seek (suc (left d c)) d c
+
+-- before the first item
+abbrev pub start : Cursor
+start = Cursor.Packet 0

@@ -1,0 +1,203 @@
+// A cursor over the items of a datagram.
+use crate::bytes::read32;
+use crate::packet::head_at;
+use crate::packet::Entry;
+use crate::packet::Head;
+use crate::report::block_at;
+use crate::report::report_at;
+use crate::report::Block;
+use crate::settings::settings_at;
+use idms::Item;
+use idms::Placed;
+ghost use mathlib.Core.Path.{_≡_};
+ghost use Prim.Native.Nat.{_+_, _-_, _≤_, _<_};
+ghost use lib.ListN.{length, getD};
+ghost use Rattle.rtcp.specs.Refusals.{passed};
+ghost use Rattle.rtcp.specs.Packet.{headCheck};
+ghost use Rattle.rtcp.specs.Head.{headOf};
+ghost use Rattle.rtcp.specs.Datagram.{datagramCheck, datagramItems};
+ghost use Rattle.rtcp.specs.Cursor.{entered, advance, torn, nextOf};
+ghost use Rattle.rtcp.specs.Answers.{nothing};
+
+// Where a walk over a datagram stands.
+pub enum Cursor {
+    // Before the packet at a place.
+    Packet(usize),
+    // Among the sources of a BYE packet: the next one, where they stop, and the packet behind.
+    Sources(usize, usize, usize),
+    // Among the blocks of an XR packet: its sender, the next block, where they stop, and the packet behind.
+    Blocks(u32, usize, usize, usize),
+}
+
+// What a cursor gives: an item and the cursor behind it, or the end.
+pub enum Step {
+    Item(Placed, Cursor),
+    End,
+}
+
+// One step of a cursor: past an item, past something that gives none, or to the end.
+pub(crate) enum Advance {
+    Item(Placed, Cursor),
+    Onward(Cursor),
+    End,
+}
+
+// A difference that stops at 0.
+fn minus(a: usize, b: usize) -> usize
+    ensures { λ r. ⌜ r ≡ a - b ⌝ }
+{
+    if a < b {
+        return 0;
+    }
+    a - b
+}
+
+// Whether what lies from `at` to `stop` is no whole word of the datagram.
+fn is_torn(d: &[u8], at: usize, stop: usize) -> bool
+    ensures { λ r. ⌜ r ≡ torn (now (d .entry)) at stop ⌝ }
+{
+    if d.len() < stop {
+        return true;
+    }
+    minus(stop, at) < 4
+}
+
+// Takes the packet at p, whose header has passed, apart by its type.
+fn enter(d: &[u8], p: usize, h: Head) -> Advance
+    requires { ⌜ (h ≡ headOf (now d) p) × (headCheck (now d) p ≡ passed) ⌝ }
+    ensures { λ r. ⌜ r ≡ entered (now (d .entry)) p ⌝ }
+{
+    let kind = h.kind;
+    let next = p + h.bytes;
+    match kind {
+        203 => Advance::Onward(Cursor::Sources(p + 4, p + (4 + 4 * h.count), next)),
+        207 => {
+            Advance::Onward(Cursor::Blocks(read32(d, p + 4), p + 8, p + h.content, next))
+        }
+        211 => Advance::Item(
+            Placed {
+                place: p,
+                item: Item::Settings(settings_at(d, p)),
+            },
+            Cursor::Packet(next),
+        ),
+        0..=202 | 204..=206 | 208..=210 | 212..=255 => Advance::Onward(Cursor::Packet(next)),
+    }
+}
+
+// A step at a packet.
+fn at_packet(d: &[u8], p: usize) -> Advance
+    ensures { λ r. ⌜ r ≡ advance (now (d .entry)) (Cursor.Packet p) ⌝ }
+{
+    if minus(d.len(), p) < 4 {
+        return Advance::End;
+    }
+    match head_at(d, p) {
+        Entry::Refused(_) => Advance::End,
+        Entry::Head(h) => enter(d, p, h),
+    }
+}
+
+// A step at a source.
+fn at_source(d: &[u8], at: usize, stop: usize, next: usize) -> Advance
+    ensures { λ r. ⌜ r ≡ advance (now (d .entry)) (Cursor.Sources at stop next) ⌝ }
+{
+    if stop <= at {
+        return Advance::Onward(Cursor::Packet(next));
+    }
+    if is_torn(d, at, stop) {
+        return Advance::End;
+    }
+    Advance::Item(
+        Placed {
+            place: at,
+            item: Item::Farewell(read32(d, at)),
+        },
+        Cursor::Sources(at + 4, stop, next),
+    )
+}
+
+// A step at a block.
+fn at_block(d: &[u8], sender: u32, at: usize, stop: usize, next: usize) -> Advance
+    ensures { λ r. ⌜ r ≡ advance (now (d .entry)) (Cursor.Blocks sender at stop next) ⌝ }
+{
+    if stop <= at {
+        return Advance::Onward(Cursor::Packet(next));
+    }
+    if is_torn(d, at, stop) {
+        return Advance::End;
+    }
+    match block_at(d, at, stop) {
+        Block::Refused(_) => Advance::End,
+        Block::Whole(bytes, items) => {
+            let behind = Cursor::Blocks(sender, at + bytes, stop, next);
+            if items == 0 {
+                return Advance::Onward(behind);
+            }
+            Advance::Item(
+                Placed {
+                    place: at,
+                    item: Item::Report(report_at(d, sender, at)),
+                },
+                behind,
+            )
+        }
+    }
+}
+
+// One step of a cursor.
+fn stepped(d: &[u8], c: Cursor) -> Advance
+    ensures { λ r. ⌜ r ≡ advance (now (d .entry)) c ⌝ }
+{
+    match c {
+        Cursor::Packet(p) => at_packet(d, p),
+        Cursor::Sources(at, stop, next) => at_source(d, at, stop, next),
+        Cursor::Blocks(sender, at, stop, next) => at_block(d, sender, at, stop, next),
+    }
+}
+
+// The next item of the datagram and the cursor behind it.
+pub fn next_item(d: &[u8], from: Cursor) -> Step
+    ensures { λ r. ⌜ r ≡ nextOf (now (d .entry)) from ⌝ }
+{
+    let mut c = from;
+    loop {
+        match stepped(d, c) {
+            Advance::Item(x, next) => {
+                return Step::Item(x, next);
+            }
+            Advance::Onward(next) => {
+                c = next;
+            }
+            Advance::End => {
+                return Step::End;
+            }
+        }
+    }
+}
+
+// The item at an index below the count of a datagram that is not refused.
+pub(crate) fn nth_item(d: &[u8], index: usize) -> Placed
+    requires { ⌜ (datagramCheck (now d) ≡ passed) × (index < length (datagramItems (now d))) ⌝ }
+    ensures { λ r. ⌜ r ≡ getD (datagramItems (now (d .entry))) index nothing ⌝ }
+{
+    let mut c = Cursor::Packet(0);
+    let mut left = index;
+    loop {
+        match next_item(d, c) {
+            Step::End => {
+                return Placed {
+                    place: 0,
+                    item: Item::Farewell(0),
+                };
+            }
+            Step::Item(x, next) => {
+                if left == 0 {
+                    return x;
+                }
+                left -= 1;
+                c = next;
+            }
+        }
+    }
+}

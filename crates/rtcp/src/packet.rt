@@ -1,0 +1,165 @@
+// A packet's header: checks 2, 3, 4 and 5.
+use crate::bytes::read16;
+ghost use mathlib.Core.Path.{_≡_};
+ghost use mathlib.Core.Bool.{not, _&&_, _||_};
+ghost use Prim.Native.Nat.{_+_, _-_, _/_, _%_, _≤_, _<_};
+ghost use lib.ListN.{length};
+ghost use lib.Dec.{eqb, ltb};
+ghost use Rattle.rtcp.specs.Packet.{size, padded, paddingIsBad, content, contentIsShort, opens};
+ghost use Rattle.rtcp.specs.Head.{entry};
+
+const BAD_PACKET: u32 = 2;
+const BAD_PADDING: u32 = 3;
+const BAD_FIRST: u32 = 4;
+const SHORT_CONTENT: u32 = 5;
+
+// What later steps use of a header. `content` counts the header and not the padding.
+pub(crate) struct Head {
+    pub kind: u8,
+    pub count: usize,
+    pub bytes: usize,
+    pub content: usize,
+}
+
+// A header that passed checks 2 to 5, or the number of the first that it did not.
+pub(crate) enum Entry {
+    Head(Head),
+    Refused(u32),
+}
+
+// The bytes of the packet at p.
+pub(crate) fn packet_size(d: &[u8], p: usize) -> usize
+    requires { ⌜ p + 4 ≤ length (now d) ⌝ }
+    ensures { λ r. ⌜ (r ≡ size (now (d .entry)) p) × (r ≤ 262144) ⌝ }
+{
+    4 * (read16(d, p + 2) + 1)
+}
+
+// Whether P is set.
+fn is_padded(first: u8) -> bool
+    ensures { λ r. ⌜ r ≡ eqb (first / 32 % 2) 1 ⌝ }
+{
+    first / 32 % 2 == 1
+}
+
+// Check 3 for the packet at p.
+fn is_badly_padded(d: &[u8], p: usize, bytes: usize) -> bool
+    requires { ⌜ (bytes ≡ size (now d) p) × (p + bytes ≤ length (now d)) ⌝ }
+    ensures { λ r. ⌜ r ≡ paddingIsBad (now (d .entry)) p ⌝ }
+{
+    if !is_padded(d[p]) {
+        return false;
+    }
+    if p == 0 {
+        return true;
+    }
+    if p + bytes != d.len() {
+        return true;
+    }
+    is_bad_count(d[p + bytes - 1], bytes)
+}
+
+// A count of padding bytes is a non-zero multiple of 4 that leaves the packet its first word.
+fn is_bad_count(count: u8, bytes: usize) -> bool
+    requires { ⌜ 4 ≤ bytes ⌝ }
+    ensures { λ r. ⌜ r ≡ (eqb count 0 || not (eqb (count % 4) 0) || ltb (bytes - 4) count) ⌝ }
+{
+    if count == 0 {
+        return true;
+    }
+    if count % 4 != 0 {
+        return true;
+    }
+    bytes - 4 < count as usize
+}
+
+// The packet's bytes without its padding.
+fn unpadded(d: &[u8], p: usize, bytes: usize) -> usize
+    requires { ⌜ (bytes ≡ size (now d) p) × (p + bytes ≤ length (now d)) ⌝ }
+    ensures { λ r. ⌜ r ≡ content (now (d .entry)) p ⌝ }
+{
+    if is_padded(d[p]) {
+        return minus(bytes, d[p + bytes - 1]);
+    }
+    bytes
+}
+
+// A difference that stops at 0.
+fn minus(bytes: usize, padding: u8) -> usize
+    ensures { λ r. ⌜ r ≡ bytes - padding ⌝ }
+{
+    let less = padding as usize;
+    if bytes < less {
+        return 0;
+    }
+    bytes - less
+}
+
+// An SR or an RR, with which a compound starts.
+fn is_opening(kind: u8) -> bool
+    ensures { λ r. ⌜ r ≡ opens kind ⌝ }
+{
+    match kind {
+        200 => true,
+        201 => true,
+        0..=199 | 202..=255 => false,
+    }
+}
+
+// Check 4: the first packet is an SR or an RR.
+fn is_bad_first(p: usize, kind: u8) -> bool
+    ensures { λ r. ⌜ r ≡ (eqb p 0 && not (opens kind)) ⌝ }
+{
+    if p == 0 {
+        return !is_opening(kind);
+    }
+    false
+}
+
+// Check 5: each type with its own least content.
+fn is_short(kind: u8, count: usize, content: usize) -> bool
+    requires { ⌜ count < 32 ⌝ }
+    ensures { λ r. ⌜ r ≡ contentIsShort kind count content ⌝ }
+{
+    match kind {
+        200 => content < 28 + 24 * count,
+        201 => content < 8 + 24 * count,
+        203 => content < 4 + 4 * count,
+        207 => content < 8,
+        211 => content != 36,
+        0..=199 | 202 | 204..=206 | 208..=210 | 212..=255 => false,
+    }
+}
+
+// The header of the packet at p, once checks 2, 3, 4 and 5 have passed.
+pub(crate) fn head_at(d: &[u8], p: usize) -> Entry
+    requires { ⌜ p + 4 ≤ length (now d) ⌝ }
+    ensures { λ r. ⌜ r ≡ entry (now (d .entry)) p ⌝ }
+{
+    let first = d[p];
+    if first / 64 != 2 {
+        return Entry::Refused(BAD_PACKET);
+    }
+    let bytes = packet_size(d, p);
+    if d.len() < p + bytes {
+        return Entry::Refused(BAD_PACKET);
+    }
+    if is_badly_padded(d, p, bytes) {
+        return Entry::Refused(BAD_PADDING);
+    }
+    let kind = d[p + 1];
+    if is_bad_first(p, kind) {
+        return Entry::Refused(BAD_FIRST);
+    }
+    let content = unpadded(d, p, bytes);
+    let count = (first % 32) as usize;
+    if is_short(kind, count, content) {
+        return Entry::Refused(SHORT_CONTENT);
+    }
+    Entry::Head(Head {
+        kind,
+        count,
+        bytes,
+        content,
+    })
+}

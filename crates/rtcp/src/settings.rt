@@ -1,0 +1,23 @@
+// The IDMS settings packet.
+use crate::bytes::read32;
+use crate::bytes::read64;
+use idms::Settings;
+ghost use mathlib.Core.Path.{_≡_};
+ghost use Prim.Native.Nat.{_+_, _≤_};
+ghost use lib.ListN.{length};
+ghost use Rattle.rtcp.specs.Settings.{settingsAt};
+
+// The settings in the packet at p. The media source precedes the group here.
+pub(crate) fn settings_at(d: &[u8], p: usize) -> Settings
+    requires { ⌜ p + 36 ≤ length (now d) ⌝ }
+    ensures { λ r. ⌜ r ≡ settingsAt (now (d .entry)) p ⌝ }
+{
+    Settings {
+        sender: read32(d, p + 4),
+        media: read32(d, p + 8),
+        group: read32(d, p + 12),
+        received: read64(d, p + 16),
+        rtp: read32(d, p + 24),
+        presented: read64(d, p + 28),
+    }
+}

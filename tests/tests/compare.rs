@@ -1,0 +1,70 @@
+//! Compares archive and decoder over a million generated datagrams and prints
+//! what they met.
+
+use prunepocket_tests::compare::{Comparison, Tally};
+use prunepocket_tests::generator::{self, Rng};
+use std::process::exit;
+use std::time::Instant;
+
+/// Used where PRUNEPOCKET_RUNS is not set.
+const RUNS: u64 = 1_000_000;
+
+/// The refusals that a reader can give; each has to be met.
+const NUMBERS: [usize; 9] = [1, 2, 3, 4, 5, 6, 7, 9, 10];
+
+fn main() {
+    let seed = generator::seed();
+    let runs = match std::env::var("PRUNEPOCKET_RUNS") {
+        Ok(text) => text.parse().expect("PRUNEPOCKET_RUNS is a number"),
+        Err(_) => RUNS,
+    };
+    let start = Instant::now();
+    let mut rng = Rng::new(seed);
+    let mut comparison = Comparison::new(seed, None);
+    for run in 0..runs {
+        let datagram = generator::datagram(&mut rng);
+        if let Err(difference) = comparison.check(&datagram) {
+            report_mismatch(seed, run, &datagram, &difference);
+            exit(1);
+        }
+    }
+    print_table(seed, &comparison.tally);
+    println!("no mismatch, {:.1} s", start.elapsed().as_secs_f64());
+    if let Some(number) = unmet(&comparison.tally) {
+        println!("FAILED: refusal {number} was never met");
+        exit(1);
+    }
+}
+
+fn report_mismatch(seed: u64, run: u64, datagram: &[u8], difference: &str) {
+    println!("FAILED: datagram {run} of seed {seed:#x}, {difference}");
+    print!("datagram");
+    for word in datagram.chunks(4) {
+        print!(" ");
+        for byte in word {
+            print!("{byte:02X}");
+        }
+    }
+    println!();
+}
+
+fn print_table(seed: u64, tally: &Tally) {
+    println!();
+    println!("archive and decoder, seed {seed:#x}");
+    println!("{:<24}{:>12}", "datagrams", tally.datagrams);
+    println!("{:<24}{:>12}", "accepted", tally.accepted);
+    for number in NUMBERS {
+        let unit = if number < 9 { "datagrams" } else { "calls" };
+        let name = format!("refused {number} ({unit})");
+        println!("{name:<24}{:>12}", tally.refusals[number]);
+    }
+    println!("{:<24}{:>12}", "reports", tally.kinds[1]);
+    println!("{:<24}{:>12}", "settings", tally.kinds[2]);
+    println!("{:<24}{:>12}", "farewells", tally.kinds[3]);
+}
+
+fn unmet(tally: &Tally) -> Option<usize> {
+    NUMBERS
+        .into_iter()
+        .find(|&number| tally.refusals[number] == 0)
+}
