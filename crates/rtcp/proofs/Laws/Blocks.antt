@@ -59,7 +59,9 @@ report-words d stop at h e =
 
 block-refuses-at : (d : List ℕ) (stop at : ℕ) → RefusesAt at (blockCheck d stop at)
 unfolding blockCheck
-block-refuses-at d stop at = refuseIf-refuses-at at _ _ _ (refuseIf-refuses-at at _ _ _ (passed-refuses-at at))
+block-refuses-at d stop at =
+    refuseIf-refuses-at at (ltb stop (at + blockSize d at)) 6 _
+    (refuseIf-refuses-at at (eqb (blockType d at) 12 && not (eqb (blockLength d at) 7)) 7 _ (passed-refuses-at at))
 
 -- ---- blockIs, by the first check that applies
 
@@ -95,6 +97,11 @@ pub record BlockPassed (d : List ℕ) (stop at bytes items : ℕ) : Type 0 where
   pub size : bytes ≡ blockSize d at
   pub inside : at + bytes ≤ stop
   pub number : items ≡ cond (reports d at) 1 0
+  pub few : items ≤ 1
+
+pub one-or-none : (t : Bool) → cond t 1 0 ≤ 1
+one-or-none true = omega arith
+one-or-none false = omega arith
 
 pub met-whole :
     (d : List ℕ) (stop at bytes items : ℕ) → blockIs d stop at ≡ Block.Whole bytes items
@@ -102,7 +109,7 @@ pub met-whole :
 unfolding blockIs
 met-whole d stop at bytes items e =
     let m : _ = meeting-whole (blockCheck d stop at) (blockSize d at) (cond (reports d at) 1 0) bytes items e in
-    record { check = m .0; size = m .1; inside = rw (m .1) (block-inside d stop at (m .0)); number = m .2 }
+    record { check = m .0; size = m .1; inside = rw (m .1) (block-inside d stop at (m .0)); number = m .2; few = rw (m .2) (one-or-none (reports d at)) }
 
 pub met-refused : (d : List ℕ) (stop at n : ℕ) → blockIs d stop at ≡ Block.Refused n → blockCheck d stop at ≡ refused n at
 unfolding blockIs

@@ -112,10 +112,11 @@ head-passed d p h =
 head-refuses-at : (d : List ℕ) (p : ℕ) → RefusesAt p (headCheck d p)
 unfolding headCheck
 head-refuses-at d p =
-    refuseIf-refuses-at p _ _ _
-    (refuseIf-refuses-at p _ _ _
-    (refuseIf-refuses-at p _ _ _
-    (refuseIf-refuses-at p _ _ _ (refuseIf-refuses-at p _ _ _ (passed-refuses-at p)))))
+    refuseIf-refuses-at p (not (eqb (version d p) 2)) 2 _
+    (refuseIf-refuses-at p (ltb (length d) (p + size d p)) 2 _
+    (refuseIf-refuses-at p (paddingIsBad d p) 3 _
+    (refuseIf-refuses-at p (eqb p 0 && not (opens (packetType d p))) 4 _
+    (refuseIf-refuses-at p (contentIsShort (packetType d p) (count d p) (content d p)) 5 _ (passed-refuses-at p)))))
 
 -- ---- contentIsShort, by type
 

@@ -1,6 +1,8 @@
 -- Laws of `byType`: which case stands for which packet type.
 use Prim.Native.Nat.{ℕ}
-use mathlib.Core.Path.{_≡_}
+use mathlib.Core.Path.{_≡_, refl}
+use mathlib.Core.Bool.{Bool, true, false, cond}
+use lib.Dec.{eqb}
 use borrow.Author.Tests.{ne-eqb}
 use Rattle.rtcp.specs.Packet.{byType}
 
@@ -31,3 +33,16 @@ module _ {A : Type 0} (type : ℕ) (sr rr bye xr settings other : A) where
   unfolding byType
   byType-other a b c d e =
       rw (ne-eqb type 200 a, ne-eqb type 201 b, ne-eqb type 203 c, ne-eqb type 207 d, ne-eqb type 211 e)
+
+-- the types whose parts are not read, SR and RR among them
+pub byType-unread :
+    {A : Type 0} (type : ℕ) (bye xr settings other : A) → (type ≡ 203 → ⊥) → (type ≡ 207 → ⊥) → (type ≡ 211 → ⊥)
+    → byType type other other bye xr settings other ≡ other
+unfolding byType
+byType-unread {A} type bye xr settings other c d e =
+    rw (ne-eqb type 203 c, ne-eqb type 207 d, ne-eqb type 211 e) (same (eqb type 200) (eqb type 201))
+  where
+    same : (a b : Bool) → cond a other (cond b other other) ≡ other
+    same true b = refl
+    same false true = refl
+    same false false = refl

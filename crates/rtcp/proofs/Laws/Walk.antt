@@ -9,6 +9,7 @@ use native.Mathlib.Nat.{add-assoc, zero-add, add-zero}
 use native.Mathlib.Omega.{arith}
 use borrow.Author.Tests.{lt-ltb, le-ltb, ltb-true, ltb-false}
 use Rattle.idms.specs.declared.Placed.{Placed}
+use Rattle.idms.specs.declared.Refusal.{Refusal}
 use Rattle.rtcp.specs.declared.walk.Count.{Count}
 use Rattle.rtcp.specs.Refusals.{Check, passed, refused, andThen}
 use Rattle.rtcp.specs.Walk.{walking, walk, checks, gives}
@@ -65,6 +66,68 @@ module _ {R : Type 0} (join : ℕ → R → R) (none : R) (size : ℕ → ℕ) (
     unfolding walk
     walk-end place h = walking-end (stop - place) place h
 
+-- ---- andThen
+
+pub both-pass : (a b : Check) → andThen a b ≡ passed → (a ≡ passed) × (b ≡ passed)
+both-pass passed b h = (refl, h)
+both-pass (refused number place) b h = let z : _≡_ {A = ℕ} 0 1 = cc in absurd (omega arith)
+
+-- ---- checks and gives together: parts of at least four bytes an item have no more items than words
+
+module _ (check : ℕ → Check) (give : ℕ → List Placed) (size : ℕ → ℕ) (stop : ℕ) (grows : (place : ℕ) → 0 < size place) where
+  pub checks-part :
+      (place : ℕ) → place < stop → checks check size stop place ≡ andThen (check place) (checks check size stop (place + size place))
+  checks-part place h = walk-part (λ (p : ℕ) (later : Check). andThen (check p) later) passed size stop grows place h
+
+  pub checks-end : (place : ℕ) → stop ≤ place → checks check size stop place ≡ passed
+  checks-end place h = walk-end (λ (p : ℕ) (later : Check). andThen (check p) later) passed size stop grows place h
+
+  pub gives-part :
+      (place : ℕ) → place < stop → gives give size stop place ≡ give place ++ gives give size stop (place + size place)
+  gives-part place h = walk-part (λ (p : ℕ) (later : List Placed). give p ++ later) [] size stop grows place h
+
+  pub gives-end : (place : ℕ) → stop ≤ place → gives give size stop place ≡ []
+  gives-end place h = walk-end (λ (p : ℕ) (later : List Placed). give p ++ later) [] size stop grows place h
+
+  -- a part that passed lies before the stop, and takes at least four bytes for each of its items
+  abbrev pub Roomy : Type 0
+  Roomy = (place : ℕ) → place < stop → check place ≡ passed → (place + size place ≤ stop) × (4 * length (give place) ≤ size place)
+
+  module _ (roomy : Roomy) where
+    bound : (k place : ℕ) → stop - place ≤ k → checks check size stop place ≡ passed → 4 * length (gives give size stop place) ≤ stop - place
+    bound zero place h e = rw (gives-end place (omega arith)) (omega arith)
+    bound (suc k) place h e = go (ltb place stop) refl (λ w. bound k (place + size place) (omega (arith, grows place)) w)
+      where
+        go :
+            (t : Bool) → ltb place stop ≡ t
+            → (checks check size stop (place + size place) ≡ passed
+            → 4 * length (gives give size stop (place + size place)) ≤ stop - (place + size place))
+            → 4 * length (gives give size stop place) ≤ stop - place
+        go false t rest = rw (gives-end place (ltb-false place stop t)) (omega arith)
+        go true t rest =
+            let here : place < stop = ltb-true place stop t in
+            let both : _ =
+                both-pass (check place) (checks check size stop (place + size place)) (sym (checks-part place here) ∙ e) in
+            let room : _ = roomy place here (both .0) in
+            let later : _ = rest (both .1) in
+            rw (gives-part place here, length-append) (omega (arith, room .0, room .1, later))
+
+    pub gives-bound : (place : ℕ) → checks check size stop place ≡ passed → 4 * length (gives give size stop place) ≤ stop - place
+    gives-bound place e = bound (stop - place) place (omega arith) e
+
+-- ---- counted
+
+pub counted-items : (k : Check) (n m : ℕ) → counted k n ≡ Count.Items m → (k ≡ passed) × (m ≡ n)
+counted-items passed n m e = (refl, cc)
+counted-items (refused number place) n m e = let z : _≡_ {A = ℕ} 0 1 = cc in absurd (omega arith)
+
+pub counted-refused :
+    (k : Check) (n : ℕ) (r : Refusal) → counted k n ≡ Count.Refused r → k ≡ refused (r .number) (r .place)
+counted-refused passed n r e = let z : _≡_ {A = ℕ} 0 1 = cc in absurd (omega arith)
+counted-refused (refused number place) n r e =
+    let same : refusal number place ≡ r = cc in
+    ap (λ (x : Refusal). refused (x .number) (x .place)) same
+
 -- ---- tally: what a loop over parts has yet to answer, with n items counted
 
 module _ (check : ℕ → Check) (give : ℕ → List Placed) (size : ℕ → ℕ) (stop : ℕ) where
@@ -80,20 +143,22 @@ module _ (check : ℕ → Check) (give : ℕ → List Placed) (size : ℕ → �
         (n place number at : ℕ) → place < stop → check place ≡ refused number at
         → tally n place ≡ Count.Refused (refusal number at)
     tally-refused n place number at h e =
-        rw (walk-part (λ (p : ℕ) (later : Check). andThen (check p) later) passed size stop grows place h, e)
+        rw (checks-part check give size stop grows place h, e)
 
     pub tally-part :
-        (n place : ℕ) → place < stop → check place ≡ passed
-        → tally n place ≡ tally (n + length (give place)) (place + size place)
-    tally-part n place h e =
-        rw (walk-part (λ (p : ℕ) (later : Check). andThen (check p) later) passed size stop grows place h,
+        (n place items bytes : ℕ) → place < stop → check place ≡ passed → items ≡ length (give place) → bytes ≡ size place
+        → tally n place ≡ tally (n + items) (place + bytes)
+    tally-part n place items bytes h e i b =
+        rw (checks-part check give size stop grows place h,
           e,
-          walk-part (λ (p : ℕ) (later : List Placed). give p ++ later) [] size stop grows place h,
+          gives-part check give size stop grows place h,
           length-append,
+          i,
+          b,
           add-assoc)
 
     pub tally-end : (n place : ℕ) → stop ≤ place → tally n place ≡ Count.Items n
     tally-end n place h =
-        rw (walk-end (λ (p : ℕ) (later : Check). andThen (check p) later) passed size stop grows place h,
-          walk-end (λ (p : ℕ) (later : List Placed). give p ++ later) [] size stop grows place h,
+        rw (checks-end check give size stop grows place h,
+          gives-end check give size stop grows place h,
           add-zero)

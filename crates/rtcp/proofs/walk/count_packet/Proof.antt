@@ -1,3 +1,6 @@
+use Rattle.rtcp.proofs.Laws.Datagram.{packet-refused}
+use Rattle.rtcp.proofs.Laws.Packet.{entered-head, entered-refused}
+use mathlib.Core.Path.{_≡_, refl, sym, ap, _∙_}
 use borrow.Author.Needs.{needs}
 use Rattle.rtcp.proofs.walk.count_packet.Statement.{statement}
 use Rattle.rtcp.proofs.walk.count_packet.Tie as tie
@@ -20,11 +23,11 @@ enum-known-h c = search needs
 
 -- src/walk.rt:81:27
 count-content-requires : tie.Need-count-content-requires
-count-content-requires c κs = ?
+count-content-requires c κs = let h : _ = entered-head (c .before .before .before .before .before .args .d .now) (c .before .before .before .before .before .args .p) (c .before .h .given .0 .0) (sym (c .before .before .before .head-at .ensures) ∙ c .before .h .given .1) in (h .1, h .0)
 
 -- src/walk.rt:75:1
 returns : tie.Need-returns
-returns c = ?
+returns c = let e : _ = packet-refused (c .before .before .before .before .before .args .d .now) (c .before .before .before .before .before .args .p) (c .before .number .given .0 .0) (c .before .before .before .before .before .args .p) (entered-refused (c .before .before .before .before .before .args .d .now) (c .before .before .before .before .before .args .p) (c .before .number .given .0 .0) (sym (c .before .before .before .head-at .ensures) ∙ c .before .number .given .1)) in rw e
 
 -- src/walk.rt:75:1
 returns-2 : tie.Need-returns-2
