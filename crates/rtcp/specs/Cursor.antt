@@ -1,7 +1,7 @@
 -- A cursor over the items of a datagram, and what it gives next. A cursor that the datagram did not give (one of another
 -- datagram, or one whose numbers were made up) ends where a check of the walk would refuse.
 use Prim.Native.Nat.{ℕ, suc, zero, _+_, _-_, _*_}
-use mathlib.Core.List.{List, [], _∷_}
+use mathlib.Core.List.{List, [], _∷_, _++_}
 use mathlib.Core.Bool.{Bool, cond, _||_}
 use lib.ListN.{length}
 use lib.Dec.{ltb, leb}
@@ -15,6 +15,7 @@ use Rattle.rtcp.specs.Packet.{byType, packetType, count, size, content, 
 use Rattle.rtcp.specs.Report.{blockSize, blockCheck, blockItems}
 use Rattle.rtcp.specs.Settings.{settingsItem}
 use Rattle.rtcp.specs.Farewell.{farewellItem}
+use Rattle.rtcp.specs.Datagram.{sourceItems, blocksItems, packetsItems}
 
 -- the packet behind p
 abbrev pub past : List ℕ → ℕ → Cursor
@@ -80,3 +81,18 @@ nextOf d c = seek (suc (left d c)) d c
 -- before the first item
 abbrev pub start : Cursor
 start = Cursor.Packet 0
+
+-- the items that lie behind a cursor
+abbrev pub remaining : List ℕ → Cursor → List Placed
+remaining d (Cursor.Packet p) = packetsItems d p
+remaining d (Cursor.Sources at stop next) = sourceItems d stop at ++ packetsItems d next
+remaining d (Cursor.Blocks sender at stop next) = blocksItems d sender stop at ++ packetsItems d next
+
+-- what a cursor gives when it is asked again and again, at most as often as the first argument says
+unfoldable pub given : ℕ → List ℕ → Cursor → List Placed
+given zero d c = []
+given (suc k) d c =
+    elim (nextOf d c) [
+      Step.Item x next ↦ x ∷ given k d next
+      | Step.End ↦ []
+    ]

@@ -111,13 +111,13 @@ unfolding packetCheck
 head-of-packet d p e = both-pass (headCheck d p) _ e .0
 
 -- one of the four ways to take a packet apart
-data Apart (type : ℕ) : Type 0 where
+pub data Apart (type : ℕ) : Type 0 where
   bye : type ≡ 203 → Apart type
   xr : type ≡ 207 → Apart type
   settings : type ≡ 211 → Apart type
   unread : (type ≡ 203 → ⊥) → (type ≡ 207 → ⊥) → (type ≡ 211 → ⊥) → Apart type
 
-apart : (type : ℕ) → Apart type
+pub apart : (type : ℕ) → Apart type
 apart type = go (eqb type 203) (eqb type 207) (eqb type 211) refl refl refl
   where
     go : (a b c : Bool) → eqb type 203 ≡ a → eqb type 207 ≡ b → eqb type 211 ≡ c → Apart type

@@ -63,7 +63,7 @@ refuseIf-refuses-at p true n later h number place e = cc
 
 -- ---- headCheck, once it has passed
 
-or-false : (a b : Bool) → (a || b) ≡ false → (a ≡ false) × (b ≡ false)
+pub or-false : (a b : Bool) → (a || b) ≡ false → (a ≡ false) × (b ≡ false)
 or-false false b h = (refl, h)
 or-false true b h = let z : _≡_ {A = ℕ} 0 1 = cc in absurd (omega arith)
 

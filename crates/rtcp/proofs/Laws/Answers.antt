@@ -1,0 +1,54 @@
+-- Laws of the public answers, by what was checked.
+use Prim.Native.Nat.{ℕ, _%_, _*_, _≤_, _<_}
+use mathlib.Core.Path.{_≡_, refl, sym, ap, _∙_}
+use mathlib.Core.List.{List}
+use mathlib.Core.Bool.{true, false, not, _||_}
+use lib.ListN.{length, getD}
+use lib.Dec.{eqb, ltb}
+use borrow.Author.Tests.{eqb-true, not-false, lt-ltb, le-ltb}
+use Rattle.idms.specs.declared.Placed.{Placed}
+use Rattle.rtcp.specs.declared.walk.Count.{Count}
+use Rattle.rtcp.specs.declared.walk.Found.{Found}
+use Rattle.rtcp.specs.Refusals.{Check, passed, refused, refuseIf}
+use Rattle.rtcp.specs.Datagram.{packetsCheck, packetsItems, lengthIsBad, datagramCheck, datagramItems}
+use Rattle.rtcp.specs.Answers.{refusal, counted, countOf, nothing, pick, found, itemOf}
+use Rattle.rtcp.proofs.Laws.Packet.{or-false, check-passes}
+
+-- ---- lengthIsBad
+
+pub length-words : (n : ℕ) → lengthIsBad n ≡ false → n % 4 ≡ 0
+length-words n h =
+    let rest : _ = or-false (eqb n 0 || not (eqb (n % 4) 0)) (ltb 2048 n) h in
+    let words : _ = or-false (eqb n 0) (not (eqb (n % 4) 0)) (rest .0) in
+    eqb-true (n % 4) 0 (not-false (eqb (n % 4) 0) (words .1))
+
+-- ---- countOf
+
+pub count-bad-length : (d : List ℕ) → lengthIsBad (length d) ≡ true → countOf d ≡ Count.Refused (refusal 1 0)
+unfolding countOf datagramCheck
+count-bad-length d h = rw h
+
+pub count-of-packets :
+    (d : List ℕ) → lengthIsBad (length d) ≡ false → countOf d ≡ counted (packetsCheck d 0) (length (packetsItems d 0))
+unfolding countOf datagramCheck datagramItems
+count-of-packets d h = rw h
+
+-- ---- itemOf
+
+pub item-refused :
+    (d : List ℕ) (index number place : ℕ) → datagramCheck d ≡ refused number place
+    → itemOf d index ≡ Found.Refused (refusal number place)
+unfolding itemOf
+item-refused d index number place e = rw e
+
+pub item-past :
+    (d : List ℕ) (index : ℕ) → datagramCheck d ≡ passed → length (datagramItems d) ≤ index
+    → itemOf d index ≡ Found.Refused (refusal 9 0)
+unfolding itemOf pick
+item-past d index e h = rw (e, le-ltb index (length (datagramItems d)) h)
+
+pub item-there :
+    (d : List ℕ) (index : ℕ) → datagramCheck d ≡ passed → index < length (datagramItems d)
+    → itemOf d index ≡ Found.Item (getD (datagramItems d) index nothing)
+unfolding itemOf pick
+item-there d index e h = rw (e, lt-ltb index (length (datagramItems d)) h)
