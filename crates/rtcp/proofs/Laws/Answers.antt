@@ -1,18 +1,21 @@
 -- Laws of the public answers, by what was checked.
-use Prim.Native.Nat.{ℕ, _%_, _*_, _≤_, _<_}
+use Prim.Native.Nat.{ℕ, suc, zero, _-_, _%_, _*_, _≤_, _<_}
 use mathlib.Core.Path.{_≡_, refl, sym, ap, _∙_}
-use mathlib.Core.List.{List}
+use mathlib.Core.List.{List, _∷_}
 use mathlib.Core.Bool.{true, false, not, _||_}
 use lib.ListN.{length, getD}
 use lib.Dec.{eqb, ltb}
+use native.Mathlib.Omega.{arith}
 use borrow.Author.Tests.{eqb-true, not-false, lt-ltb, le-ltb}
 use Rattle.idms.specs.declared.Placed.{Placed}
+use Rattle.idms.specs.declared.Refusal.{Refusal}
 use Rattle.rtcp.specs.declared.walk.Count.{Count}
 use Rattle.rtcp.specs.declared.walk.Found.{Found}
 use Rattle.rtcp.specs.Refusals.{Check, passed, refused, refuseIf}
 use Rattle.rtcp.specs.Datagram.{packetsCheck, packetsItems, lengthIsBad, datagramCheck, datagramItems}
 use Rattle.rtcp.specs.Answers.{refusal, counted, countOf, nothing, pick, found, itemOf}
-use Rattle.rtcp.proofs.Laws.Packet.{or-false, check-passes}
+use Rattle.rtcp.proofs.Laws.Packet.{or-false}
+use Rattle.rtcp.proofs.Laws.Walk.{counted-items, counted-refused}
 
 -- ---- lengthIsBad
 
@@ -32,6 +35,21 @@ pub count-of-packets :
     (d : List ℕ) → lengthIsBad (length d) ≡ false → countOf d ≡ counted (packetsCheck d 0) (length (packetsItems d 0))
 unfolding countOf datagramCheck datagramItems
 count-of-packets d h = rw h
+
+-- what an answer says of the checks
+pub count-passed : (d : List ℕ) (n : ℕ) → countOf d ≡ Count.Items n → (datagramCheck d ≡ passed) × (n ≡ length (datagramItems d))
+unfolding countOf
+count-passed d n e = counted-items (datagramCheck d) (length (datagramItems d)) n e
+
+pub count-refused : (d : List ℕ) (r : Refusal) → countOf d ≡ Count.Refused r → datagramCheck d ≡ refused (r .number) (r .place)
+unfolding countOf
+count-refused d r e = counted-refused (datagramCheck d) (length (datagramItems d)) r e
+
+-- ---- an item behind the first
+
+pub getD-behind : (x : Placed) (l : List Placed) (i : ℕ) (none : Placed) → (i ≡ 0 → ⊥) → getD (x ∷ l) i none ≡ getD l (i - 1) none
+getD-behind x l zero none h = absurd (h refl)
+getD-behind x l (suc i) none h = let e : suc i - 1 ≡ i = omega arith in ap (λ (k : ℕ). getD l k none) (sym e)
 
 -- ---- itemOf
 

@@ -116,3 +116,13 @@ unfolding blockIs
 met-refused d stop at n e =
     let r : _ = meeting-refused (blockCheck d stop at) (blockSize d at) (cond (reports d at) 1 0) n e in
     r .1 ∙ ap (refused n) (block-refuses-at d stop at n (r .0) (r .1))
+
+-- the number of items says whether the block reports
+
+pub none-reports : (t : Bool) (items : ℕ) → items ≡ cond t 1 0 → items ≡ 0 → t ≡ false
+none-reports false items e z = refl
+none-reports true items e z = absurd (omega arith)
+
+pub one-reports : (t : Bool) (items : ℕ) → items ≡ cond t 1 0 → (items ≡ 0 → ⊥) → t ≡ true
+one-reports true items e z = refl
+one-reports false items e z = absurd (z e)

@@ -281,6 +281,25 @@ pub next-gives : (d : List ℕ) (c : Cursor) → Good d c → Gives d c (nextOf 
 unfolding nextOf
 next-gives d c good = seek-gives (suc (left d c)) d c (omega arith) good
 
+pub at-item :
+    (d : List ℕ) (c : Cursor) (x : Placed) (n : Cursor) → Good d c → nextOf d c ≡ Step.Item x n
+    → (remaining d c ≡ x ∷ remaining d n) × Good d n
+at-item d c x n good e = take e (next-gives d c good)
+  where
+    take : {s : Step} → s ≡ Step.Item x n → Gives d c s → (remaining d c ≡ x ∷ remaining d n) × Good d n
+    take e (Gives.ended f) = let z : _≡_ {A = ℕ} 0 1 = cc in absurd (omega arith)
+    take e (Gives.gave y m f g) =
+        let first : y ≡ x = cc in
+        let later : m ≡ n = cc in
+        (rw (first, later) at f, rw later at g)
+
+pub at-end : (d : List ℕ) (c : Cursor) → Good d c → nextOf d c ≡ Step.End → remaining d c ≡ []
+at-end d c good e = take e (next-gives d c good)
+  where
+    take : {s : Step} → s ≡ Step.End → Gives d c s → remaining d c ≡ []
+    take e (Gives.ended f) = f
+    take e (Gives.gave y m f g) = let z : _≡_ {A = ℕ} 0 1 = cc in absurd (omega arith)
+
 -- ---- all of them: from the start, a datagram with no refusal gives item 0, 1, .. count − 1, and then the end
 
 given-all : (k : ℕ) (d : List ℕ) (c : Cursor) → Good d c → length (remaining d c) ≤ k → given k d c ≡ remaining d c

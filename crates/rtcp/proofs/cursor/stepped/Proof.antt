@@ -1,3 +1,5 @@
+use Rattle.rtcp.specs.Cursor.{advance}
+use mathlib.Core.Path.{_≡_, refl, sym, ap, _∙_}
 use borrow.Author.Needs.{needs}
 use Rattle.rtcp.proofs.cursor.stepped.Statement.{statement}
 use Rattle.rtcp.proofs.cursor.stepped.Tie as tie
@@ -33,15 +35,15 @@ at-block-requires c κs = search needs
 
 -- src/cursor.rt:149:1
 returns : tie.Need-returns
-returns c = ?
+returns c = c .at-packet .ensures ∙ sym (ap (advance (c .before .before .before .before .before .args .d .now)) (c .before .before .c .given .1))
 
 -- src/cursor.rt:149:1
 returns-2 : tie.Need-returns-2
-returns-2 c = ?
+returns-2 c = c .at-source .ensures ∙ sym (ap (advance (c .before .before .before .before .before .args .d .now)) (c .before .before .c2 .given .1))
 
 -- src/cursor.rt:149:1
 returns-3 : tie.Need-returns-3
-returns-3 c = ?
+returns-3 c = c .at-block .ensures ∙ sym (ap (advance (c .before .before .before .before .before .args .d .now)) (c .before .before .c3 .given .1))
 
 pub stepped-spec : {M : Type 1} → statement M
 stepped-spec =
