@@ -39,7 +39,7 @@ p5-report =
       media = 7;
       received = 998 * 2 ^ 32;
       rtp = 8820000;
-      presented = 0x03E6C000
+      presented = 0x03E6C000;
     }
 
 empty-datagram : countOf [] ≡ Count.Refused (refusal 1 0)

@@ -9,8 +9,10 @@ use Rattle.idms.specs.declared.Placed.{Placed}
 use Rattle.idms.specs.declared.Refusal.{Refusal}
 use Rattle.rtcp.specs.declared.walk.Count.{Count}
 use Rattle.rtcp.specs.declared.walk.Found.{Found}
+use Rattle.rtcp.specs.declared.cursor.Opened.{Opened}
 use Rattle.rtcp.specs.Refusals.{Check, passed, refused, noSuchItem}
 use Rattle.rtcp.specs.Datagram.{datagramCheck, datagramItems}
+use Rattle.rtcp.specs.Cursor.{start}
 
 abbrev pub refusal : ℕ → ℕ → Refusal
 refusal number place = record { number = number; place = place }
@@ -39,3 +41,11 @@ found (refused number place) items index = Found.Refused (refusal number place)
 -- the item at an index, or the datagram's refusal, which answers at any index, or 9
 unfoldable pub itemOf : List ℕ → ℕ → Found
 itemOf d index = found (datagramCheck d) (datagramItems d) index
+
+-- a cursor before the first item, and how many items there are, or the datagram's refusal
+abbrev pub opened : Check → ℕ → Opened
+opened passed items = Opened.Items items start
+opened (refused number place) items = Opened.Refused (refusal number place)
+
+unfoldable pub openedOf : List ℕ → Opened
+openedOf d = opened (datagramCheck d) (length (datagramItems d))

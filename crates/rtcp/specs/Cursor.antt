@@ -69,7 +69,7 @@ unfoldable pub seek : ℕ → List ℕ → Cursor → Step
 seek zero d c = Step.End
 seek (suc k) d c =
     elim (advance d c) [
-      Advance.Item x next ↦ Step.Item x next
+      | Advance.Item x next ↦ Step.Item x next
       | Advance.Onward next ↦ seek k d next
       | Advance.End ↦ Step.End
     ]
@@ -93,6 +93,6 @@ unfoldable pub given : ℕ → List ℕ → Cursor → List Placed
 given zero d c = []
 given (suc k) d c =
     elim (nextOf d c) [
-      Step.Item x next ↦ x ∷ given k d next
+      | Step.Item x next ↦ x ∷ given k d next
       | Step.End ↦ []
     ]

@@ -64,7 +64,7 @@ reportAt d sender at =
       media = be32 d (at + 12);
       received = be64 d (at + 16);
       rtp = be32 d (at + 24);
-      presented = cond (presents d at) (be32 d (at + 28)) 0
+      presented = cond (presents d at) (be32 d (at + 28)) 0;
     }
 
 -- an IDMS report: block type 12 with role 1

@@ -35,7 +35,7 @@ settingsAt d p =
       group = be32 d (p + 12);
       received = be64 d (p + 16);
       rtp = be32 d (p + 24);
-      presented = be64 d (p + 28)
+      presented = be64 d (p + 28);
     }
 
 abbrev pub settingsItem : List ℕ → ℕ → Placed

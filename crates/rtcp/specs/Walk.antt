@@ -13,7 +13,7 @@ unfoldable pub walking : {R : Type 0} → ℕ → (ℕ → R → R) → R → (�
 walking zero join none size stop place = none
 walking (suc k) join none size stop place =
     elim (ltb place stop) [
-      true ↦ join place (walking k join none size stop (place + size place))
+      | true ↦ join place (walking k join none size stop (place + size place))
       | false ↦ none
     ]
 

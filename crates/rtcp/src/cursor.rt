@@ -1,14 +1,17 @@
 // A cursor over the items of a datagram.
 use crate::bytes::read32;
-use crate::packet::head_at;
 use crate::packet::Entry;
 use crate::packet::Head;
+use crate::packet::head_at;
+use crate::report::Block;
 use crate::report::block_at;
 use crate::report::report_at;
-use crate::report::Block;
 use crate::settings::settings_at;
+use crate::walk::Count;
+use crate::walk::count_items;
 use idms::Item;
 use idms::Placed;
+use idms::Refusal;
 ghost use mathlib.Core.Path.{_≡_};
 ghost use Prim.Native.Nat.{_+_, _-_, _≤_, _<_};
 ghost use lib.ListN.{length, getD};
@@ -17,7 +20,7 @@ ghost use Rattle.rtcp.specs.Packet.{headCheck};
 ghost use Rattle.rtcp.specs.Head.{headOf};
 ghost use Rattle.rtcp.specs.Datagram.{datagramCheck, datagramItems};
 ghost use Rattle.rtcp.specs.Cursor.{entered, advance, torn, nextOf};
-ghost use Rattle.rtcp.specs.Answers.{nothing};
+ghost use Rattle.rtcp.specs.Answers.{nothing, openedOf};
 
 // Where a walk over a datagram stands.
 pub enum Cursor {
@@ -27,6 +30,12 @@ pub enum Cursor {
     Sources(usize, usize, usize),
     // Among the blocks of an XR packet: its sender, the next block, where they stop, and the packet behind.
     Blocks(u32, usize, usize, usize),
+}
+
+// A datagram that is not refused: how many items it has, and a cursor before the first.
+pub enum Opened {
+    Items(usize, Cursor),
+    Refused(Refusal),
 }
 
 // What a cursor gives: an item and the cursor behind it, or the end.
@@ -71,9 +80,7 @@ fn enter(d: &[u8], p: usize, h: Head) -> Advance
     let next = p + h.bytes;
     match kind {
         203 => Advance::Onward(Cursor::Sources(p + 4, p + (4 + 4 * h.count), next)),
-        207 => {
-            Advance::Onward(Cursor::Blocks(read32(d, p + 4), p + 8, p + h.content, next))
-        }
+        207 => { Advance::Onward(Cursor::Blocks(read32(d, p + 4), p + 8, p + h.content, next)) }
         211 => Advance::Item(
             Placed {
                 place: p,
@@ -173,6 +180,16 @@ pub fn next_item(d: &[u8], from: Cursor) -> Step
                 return Step::End;
             }
         }
+    }
+}
+
+// Checks a datagram, and puts a cursor before its first item.
+pub fn open_datagram(d: &[u8]) -> Opened
+    ensures { λ r. ⌜ r ≡ openedOf (now (d .entry)) ⌝ }
+{
+    match count_items(d) {
+        Count::Refused(r) => Opened::Refused(r),
+        Count::Items(n) => Opened::Items(n, Cursor::Packet(0)),
     }
 }
 

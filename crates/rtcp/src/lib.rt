@@ -9,9 +9,11 @@ mod settings;
 mod walk;
 
 pub use cursor::Cursor;
-pub use cursor::next_item;
+pub use cursor::Opened;
 pub use cursor::Step;
-pub use walk::count_items;
-pub use walk::item_at;
+pub use cursor::next_item;
+pub use cursor::open_datagram;
 pub use walk::Count;
 pub use walk::Found;
+pub use walk::count_items;
+pub use walk::item_at;

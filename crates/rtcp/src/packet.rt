@@ -9,8 +9,11 @@ ghost use Rattle.rtcp.specs.Packet.{size, padded, paddingIsBad, content,
 ghost use Rattle.rtcp.specs.Head.{entry};
 
 const BAD_PACKET: u32 = 2;
+
 const BAD_PADDING: u32 = 3;
+
 const BAD_FIRST: u32 = 4;
+
 const SHORT_CONTENT: u32 = 5;
 
 // What later steps use of a header. `content` counts the header and not the padding.

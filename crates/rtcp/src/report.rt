@@ -12,6 +12,7 @@ ghost use Rattle.rtcp.specs.Head.{blockIs};
 ghost use Rattle.rtcp.specs.Report.{reportAt};
 
 const BLOCK_PAST_END: u32 = 6;
+
 const BAD_BLOCK_LENGTH: u32 = 7;
 
 // What is found at a block: how many bytes it takes and how many items it gives, or the number of its refusal.

@@ -1,11 +1,11 @@
 // How many items a datagram has, and the item at an index.
 use crate::cursor::nth_item;
-use crate::packet::head_at;
-use crate::packet::packet_size;
 use crate::packet::Entry;
 use crate::packet::Head;
-use crate::report::block_at;
+use crate::packet::head_at;
+use crate::packet::packet_size;
 use crate::report::Block;
+use crate::report::block_at;
 use idms::Placed;
 use idms::Refusal;
 ghost use mathlib.Core.Path.{_≡_};
@@ -19,6 +19,7 @@ ghost use Rattle.rtcp.specs.Datagram.{blocksCheck, blocksItems, packetCh
 ghost use Rattle.rtcp.specs.Answers.{counted, countOf, itemOf};
 
 const BAD_LENGTH: u32 = 1;
+
 const NO_SUCH_ITEM: u32 = 9;
 
 // How many items a datagram has.
@@ -36,9 +37,7 @@ pub enum Found {
 // Checks the blocks of the XR packet at p, and counts the items that they give.
 fn count_blocks(d: &[u8], p: usize, content: usize) -> Count
     requires { ⌜ (8 ≤ content) × (content % 4 ≡ 0) × (p + content ≤ length (now d)) ⌝ }
-    ensures {
-        λ r. ⌜ r ≡ counted (blocksCheck (now (d .entry)) (p + content) (p + 8)) (length (blocksItems (now (d .entry)) (be32 (now (d .entry)) (p + 4)) (p + content) (p + 8))) ⌝
-    }
+    ensures { λ r. ⌜ r ≡ counted (blocksCheck (now (d .entry)) (p + content) (p + 8)) (length (blocksItems (now (d .entry)) (be32 (now (d .entry)) (p + 4)) (p + content) (p + 8))) ⌝ }
 {
     let stop = p + content;
     let mut at = p + 8;

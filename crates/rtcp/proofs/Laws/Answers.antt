@@ -11,9 +11,11 @@ use Rattle.idms.specs.declared.Placed.{Placed}
 use Rattle.idms.specs.declared.Refusal.{Refusal}
 use Rattle.rtcp.specs.declared.walk.Count.{Count}
 use Rattle.rtcp.specs.declared.walk.Found.{Found}
+use Rattle.rtcp.specs.declared.cursor.Opened.{Opened}
 use Rattle.rtcp.specs.Refusals.{Check, passed, refused, refuseIf}
 use Rattle.rtcp.specs.Datagram.{packetsCheck, packetsItems, lengthIsBad, datagramCheck, datagramItems}
-use Rattle.rtcp.specs.Answers.{refusal, counted, countOf, nothing, pick, found, itemOf}
+use Rattle.rtcp.specs.Answers.{refusal, counted, countOf, nothing, pick, itemOf, openedOf}
+use Rattle.rtcp.specs.Cursor.{start}
 use Rattle.rtcp.proofs.Laws.Packet.{or-false}
 use Rattle.rtcp.proofs.Laws.Walk.{counted-items, counted-refused}
 
@@ -44,6 +46,16 @@ count-passed d n e = counted-items (datagramCheck d) (length (datagramItems d)) 
 pub count-refused : (d : List ℕ) (r : Refusal) → countOf d ≡ Count.Refused r → datagramCheck d ≡ refused (r .number) (r .place)
 unfolding countOf
 count-refused d r e = counted-refused (datagramCheck d) (length (datagramItems d)) r e
+
+-- ---- openedOf
+
+pub opened-passed : (d : List ℕ) (n : ℕ) → countOf d ≡ Count.Items n → openedOf d ≡ Opened.Items n start
+unfolding openedOf
+opened-passed d n e = let m : _ = count-passed d n e in rw (m .0) (ap (λ (k : ℕ). Opened.Items k start) (sym (m .1)))
+
+pub opened-refused : (d : List ℕ) (r : Refusal) → countOf d ≡ Count.Refused r → openedOf d ≡ Opened.Refused r
+unfolding openedOf
+opened-refused d r e = rw (count-refused d r e)
 
 -- ---- an item behind the first
 

@@ -38,6 +38,7 @@ entered-falls d p h e = go (apart (packetType d p))
   where
     known : HeadPassed d p
     known = head-passed d p e
+
     go : Apart (packetType d p) → Falls d (Cursor.Packet p) (entered d p)
     go (bye t) =
         rw (entered-bye d p t)
@@ -180,12 +181,13 @@ module _ (d : List ℕ) (p : ℕ) (h : p < length d) (w : (length d - p) % 4 ≡
       go (xr t) =
           rw (entered-xr d p t)
           (went (Cursor.Blocks (be32 d (p + 4)) (p + 8) (p + content d p) (p + size d p))
-          (items-here ∙ ap (λ (l : List Placed). l ++ packetsItems d (p + size d p)) (items-xr d p t))
-          (omega (arith, known .fits, known .inside),
+          (items-here ∙ ap (λ (l : List Placed). l ++ packetsItems d (p + size d p)) (items-xr d p t)) (
+            omega (arith, known .fits, known .inside),
             omega (arith, known .words, least-xr _ _ _ (known .enough) t),
             behind,
             both .1,
-            sym (check-xr d p head t) ∙ both .0))
+            sym (check-xr d p head t) ∙ both .0,
+          ))
       go (settings t) =
           rw (entered-settings d p t)
           (gave _ (past d p)
@@ -235,8 +237,8 @@ advance-steps d (Cursor.Blocks sender at stop next) good = go (leb stop at) refl
     go false t true g =
         let here : at < stop = leb-false stop at t in
         let two : _ =
-            both-pass (blockCheck d stop at) (blocksCheck d stop (at + blockSize d at))
-            (sym (checks-part (blockCheck d stop) (blockItems d sender) (blockSize d) stop (λ k. omega arith) at here) ∙ good .4) in
+        both-pass (blockCheck d stop at) (blocksCheck d stop (at + blockSize d at))
+        (sym (checks-part (blockCheck d stop) (blockItems d sender) (blockSize d) stop (λ k. omega arith) at here) ∙ good .4) in
         rw (blocks-item d sender at stop next here (whole-word d at stop (good .0) (omega (arith, good .1))) (two .0) g)
         (gave _ (Cursor.Blocks sender (at + blockSize d at) stop next)
         (ap (λ (l : List Placed). l ++ packetsItems d next)
@@ -246,8 +248,8 @@ advance-steps d (Cursor.Blocks sender at stop next) good = go (leb stop at) refl
     go false t false g =
         let here : at < stop = leb-false stop at t in
         let two : _ =
-            both-pass (blockCheck d stop at) (blocksCheck d stop (at + blockSize d at))
-            (sym (checks-part (blockCheck d stop) (blockItems d sender) (blockSize d) stop (λ k. omega arith) at here) ∙ good .4) in
+        both-pass (blockCheck d stop at) (blocksCheck d stop (at + blockSize d at))
+        (sym (checks-part (blockCheck d stop) (blockItems d sender) (blockSize d) stop (λ k. omega arith) at here) ∙ good .4) in
         rw (blocks-pass d sender at stop next here (whole-word d at stop (good .0) (omega (arith, good .1))) (two .0) g)
         (went (Cursor.Blocks sender (at + blockSize d at) stop next)
         (ap (λ (l : List Placed). l ++ packetsItems d next)
@@ -269,6 +271,7 @@ seek-gives (suc k) d c h good =
     moved : (n : Cursor) {s : Step} → remaining d c ≡ remaining d n → Gives d n s → Gives d c s
     moved n e (Gives.ended f) = Gives.ended (e ∙ f)
     moved n e (Gives.gave x m f g) = Gives.gave x m (e ∙ f) g
+
     go :
         {a : Advance} → advance d c ≡ a → Steps d c a
         → ((n : Cursor) → advance d c ≡ Advance.Onward n → Good d n → Gives d n (seek k d n))

@@ -131,22 +131,25 @@ packet-room d p e = go (apart (packetType d p))
   where
     head : headCheck d p ≡ passed
     head = head-of-packet d p e
+
     known : HeadPassed d p
     known = head-passed d p head
+
     go : Apart (packetType d p) → 4 * length (packetItems d p) ≤ size d p
     go (bye t) =
         rw (items-bye d p t, length-sourceItems d (count d p) (p + (4 + 4 * count d p)) (p + 4) (omega arith))
         (omega (arith, least-bye _ _ _ (known .enough) t, known .inside))
     go (xr t) =
         rw (items-xr d p t)
-        (omega
-          (arith,
-            known .inside,
-            gives-bound (blockCheck d (p + content d p)) (blockItems d (be32 d (p + 4))) (blockSize d) (p + content d p)
-            (λ k. omega arith)
-            (blocks-roomy d (be32 d (p + 4)) (p + content d p))
-            (p + 8)
-            (sym (check-xr d p head t) ∙ e)))
+        (omega (
+          arith,
+          known .inside,
+          gives-bound (blockCheck d (p + content d p)) (blockItems d (be32 d (p + 4))) (blockSize d) (p + content d p)
+              (λ k. omega arith)
+              (blocks-roomy d (be32 d (p + 4)) (p + content d p))
+              (p + 8)
+              (sym (check-xr d p head t) ∙ e),
+        ))
     go (settings t) = rw (items-settings d p t) (omega (arith, exact-settings _ _ _ (known .enough) t, known .inside))
     go (unread a b c) = rw (items-unread d p a b c) (omega arith)
 

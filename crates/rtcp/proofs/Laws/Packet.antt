@@ -76,13 +76,13 @@ content-whole d p h = go (padded d p) refl
     go false e = rw (content-bare d p e) (omega arith)
     go true e =
         let last : _ =
-            or-false
-            (eqb p 0 || not (eqb (p + size d p) (length d)) || eqb (padding d p) 0 || not (eqb (padding d p % 4) 0))
-            (ltb (size d p - 4) (padding d p))
-            (rw (e, paddingIsBad) at h) in
+        or-false
+        (eqb p 0 || not (eqb (p + size d p) (length d)) || eqb (padding d p) 0 || not (eqb (padding d p % 4) 0))
+        (ltb (size d p - 4) (padding d p))
+        (rw (e, paddingIsBad) at h) in
         let words : _ =
-            or-false (eqb p 0 || not (eqb (p + size d p) (length d)) || eqb (padding d p) 0) (not (eqb (padding d p % 4) 0))
-            (last .0) in
+        or-false (eqb p 0 || not (eqb (p + size d p) (length d)) || eqb (padding d p) 0) (not (eqb (padding d p % 4) 0))
+        (last .0) in
         let most : padding d p ≤ size d p - 4 = ltb-false (size d p - 4) (padding d p) (last .1) in
         let four : padding d p % 4 ≡ 0 = eqb-true (padding d p % 4) 0 (not-false (eqb (padding d p % 4) 0) (words .1)) in
         rw (content-padded d p e) (omega arith)
@@ -106,7 +106,7 @@ head-passed d p h =
       fits = ltb-false (length d) (p + size d p) (b .0);
       inside = w .0;
       words = w .1;
-      enough = g .0
+      enough = g .0;
     }
 
 head-refuses-at : (d : List ℕ) (p : ℕ) → RefusesAt p (headCheck d p)

@@ -107,7 +107,7 @@ module _ (check : ℕ → Check) (give : ℕ → List Placed) (size : ℕ → �
         go true t rest =
             let here : place < stop = ltb-true place stop t in
             let both : _ =
-                both-pass (check place) (checks check size stop (place + size place)) (sym (checks-part place here) ∙ e) in
+            both-pass (check place) (checks check size stop (place + size place)) (sym (checks-part place here) ∙ e) in
             let room : _ = roomy place here (both .0) in
             let later : _ = rest (both .1) in
             rw (gives-part place here, length-append) (omega (arith, room .0, room .1, later))
@@ -149,16 +149,20 @@ module _ (check : ℕ → Check) (give : ℕ → List Placed) (size : ℕ → �
         (n place items bytes : ℕ) → place < stop → check place ≡ passed → items ≡ length (give place) → bytes ≡ size place
         → tally n place ≡ tally (n + items) (place + bytes)
     tally-part n place items bytes h e i b =
-        rw (checks-part check give size stop grows place h,
+        rw (
+          checks-part check give size stop grows place h,
           e,
           gives-part check give size stop grows place h,
           length-append,
           i,
           b,
-          add-assoc)
+          add-assoc,
+        )
 
     pub tally-end : (n place : ℕ) → stop ≤ place → tally n place ≡ Count.Items n
     tally-end n place h =
-        rw (checks-end check give size stop grows place h,
+        rw (
+          checks-end check give size stop grows place h,
           gives-end check give size stop grows place h,
-          add-zero)
+          add-zero,
+        )

@@ -51,7 +51,7 @@ report-at-requires c κs = let w : _ = torn-not (c .before .before .before .befo
 
 -- src/cursor.rt:121:1
 returns-4 : tie.Need-returns-4
-returns-4 c = let e : _ = met-refused (c .before .before .before .before .before .before .before .args .d .now) (c .before .before .before .before .before .before .before .args .stop) (c .before .before .before .before .before .before .before .args .at) (c .enum-told .given .0 .0) (sym (c .before .before .block-at .ensures) ∙ c .enum-told .given .1) in sym (blocks-stop (c .before .before .before .before .before .before .before .args .d .now) (c .before .before .before .before .before .before .before .args .sender) (c .before .before .before .before .before .before .before .args .at) (c .before .before .before .before .before .before .before .args .stop) (c .before .before .before .before .before .before .before .args .next) (c .before .before .before .before .before .if1 .left) (sym (c .before .before .before .before .is-torn .ensures) ∙ c .before .before .before .if2 .left)  _ _ e)
+returns-4 c = let e : _ = met-refused (c .before .before .before .before .before .before .before .args .d .now) (c .before .before .before .before .before .before .before .args .stop) (c .before .before .before .before .before .before .before .args .at) (c .enum-told .given .0 .0) (sym (c .before .before .block-at .ensures) ∙ c .enum-told .given .1) in sym (blocks-stop (c .before .before .before .before .before .before .before .args .d .now) (c .before .before .before .before .before .before .before .args .sender) (c .before .before .before .before .before .before .before .args .at) (c .before .before .before .before .before .before .before .args .stop) (c .before .before .before .before .before .before .before .args .next) (c .before .before .before .before .before .if1 .left) (sym (c .before .before .before .before .is-torn .ensures) ∙ c .before .before .before .if2 .left) _ _ e)
 
 -- src/cursor.rt:121:1
 returns-5 : tie.Need-returns-5
