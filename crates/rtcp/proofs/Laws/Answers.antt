@@ -38,6 +38,11 @@ pub count-of-packets :
 unfolding countOf datagramCheck datagramItems
 count-of-packets d h = rw h
 
+pub count-of-refused :
+    (d : List ℕ) (number place : ℕ) → datagramCheck d ≡ refused number place → countOf d ≡ Count.Refused (refusal number place)
+unfolding countOf
+count-of-refused d number place e = rw e
+
 -- what an answer says of the checks
 pub count-passed : (d : List ℕ) (n : ℕ) → countOf d ≡ Count.Items n → (datagramCheck d ≡ passed) × (n ≡ length (datagramItems d))
 unfolding countOf

@@ -46,3 +46,16 @@ byType-unread {A} type bye xr settings other c d e =
     same true b = refl
     same false true = refl
     same false false = refl
+
+-- one value for every type but XR
+pub byType-unless-xr :
+    {A : Type 0} (type : ℕ) (other xr : A) → (type ≡ 207 → ⊥) → byType type other other other xr other other ≡ other
+unfolding byType
+byType-unless-xr {A} type other xr d = rw (ne-eqb type 207 d) (same (eqb type 200) (eqb type 201) (eqb type 203) (eqb type 211))
+  where
+    same : (a b c e : Bool) → cond a other (cond b other (cond c other (cond e other other))) ≡ other
+    same true b c e = refl
+    same false true c e = refl
+    same false false true e = refl
+    same false false false true = refl
+    same false false false false = refl
