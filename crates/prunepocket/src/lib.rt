@@ -1,0 +1,101 @@
+// Every function that C and Rust call, under the names of include/prunepocket.h. Each is thin: it calls a proved
+// function of a crate below and hands its answer on as plain numbers.
+use idms::Field;
+use idms::Refusal;
+use rtcp::Count;
+use rtcp::Found;
+ghost use mathlib.Core.Path.{_≡_};
+ghost use Rattle.idms.specs.Rows.{fieldOf};
+ghost use Rattle.rtcp.specs.Answers.{countOf, itemOf};
+ghost use Rattle.rows.specs.Rows.{rowsAnswer, rowsAfter};
+ghost use Rattle.prunepocket.specs.Answers.{accepted, refusing, counting, counted, reading, read};
+
+const NO_SUCH_ITEM: u64 = 9;
+
+// A refusal's number and place, or 0 and 0 where there was none.
+#[repr(C)]
+pub struct Answer {
+    pub number: u64,
+    pub place: u64,
+}
+
+fn accept() -> Answer
+    ensures { λ r. ⌜ r ≡ accepted ⌝ }
+{
+    Answer {
+        number: 0,
+        place: 0,
+    }
+}
+
+fn refuse(r: Refusal) -> Answer
+    ensures { λ a. ⌜ a ≡ refusing r ⌝ }
+{
+    Answer {
+        number: r.number as u64,
+        place: r.place as u64,
+    }
+}
+
+// How many items a datagram has.
+#[no_mangle]
+pub extern "C" fn prunepocket_count_items(datagram: &[u8], count: &mut u64) -> Answer
+    ensures {
+        λ r. ⌜ (r ≡ counting (countOf (now (datagram .entry)))) × (now (count .exit) ≡ counted (countOf (now (datagram .entry))) (now (count .entry))) ⌝
+    }
+{
+    match rtcp::count_items(datagram) {
+        Count::Refused(r) => refuse(r),
+        Count::Items(n) => {
+            *count = n as u64;
+            accept()
+        }
+    }
+}
+
+// One field of the item at an index.
+#[no_mangle]
+pub extern "C" fn prunepocket_item_field(
+    datagram: &[u8],
+    index: u64,
+    field: u64,
+    value: &mut u64,
+) -> Answer
+    ensures {
+        λ r. ⌜ (r ≡ reading (itemOf (now (datagram .entry)) index) field) × (now (value .exit) ≡ read (itemOf (now (datagram .entry)) index) field (now (value .entry))) ⌝
+    }
+{
+    match rtcp::item_at(datagram, index as usize) {
+        Found::Refused(r) => refuse(r),
+        Found::Item(x) => match idms::field_at(x, field) {
+            Field::Absent => Answer {
+                number: NO_SUCH_ITEM,
+                place: 0,
+            },
+            Field::Value(v) => {
+                *value = v;
+                accept()
+            }
+        },
+    }
+}
+
+// All items, a row of ten numbers each.
+#[no_mangle]
+pub extern "C" fn prunepocket_read_items(
+    datagram: &[u8],
+    rows: &mut [u64],
+    count: &mut u64,
+) -> Answer
+    ensures {
+        λ r. ⌜ (r ≡ counting (rowsAnswer (now (datagram .entry)) (now (rows .entry)))) × (now (rows .exit) ≡ rowsAfter (now (datagram .entry)) (now (rows .entry))) × (now (count .exit) ≡ counted (rowsAnswer (now (datagram .entry)) (now (rows .entry))) (now (count .entry))) ⌝
+    }
+{
+    match rows::read_rows(datagram, rows) {
+        Count::Refused(r) => refuse(r),
+        Count::Items(n) => {
+            *count = n as u64;
+            accept()
+        }
+    }
+}
