@@ -42,7 +42,7 @@ pub struct Placed {
 
 // A refusal's number and the byte of the datagram at which it was met.
 pub struct Refusal {
-    pub number: u32,
+    pub number: u64,
     pub place: usize,
 }
 

@@ -7,7 +7,7 @@ use rtcp::Found;
 ghost use mathlib.Core.Path.{_≡_};
 ghost use Rattle.idms.specs.Rows.{fieldOf};
 ghost use Rattle.rtcp.specs.Answers.{countOf, itemOf};
-ghost use Rattle.rows.specs.Rows.{rowsAnswer, rowsAfter};
+ghost use Rattle.rtcp.specs.Rows.{rowsAnswer, rowsAfter};
 ghost use Rattle.prunepocket.specs.Answers.{accepted, refusing, counting, counted, reading, read};
 
 const NO_SUCH_ITEM: u64 = 9;
@@ -91,7 +91,7 @@ pub extern "C" fn prunepocket_read_items(
         λ r. ⌜ (r ≡ counting (rowsAnswer (now (datagram .entry)) (now (rows .entry)))) × (now (rows .exit) ≡ rowsAfter (now (datagram .entry)) (now (rows .entry))) × (now (count .exit) ≡ counted (rowsAnswer (now (datagram .entry)) (now (rows .entry))) (now (count .entry))) ⌝
     }
 {
-    match rows::read_rows(datagram, rows) {
+    match rtcp::read_rows(datagram, rows) {
         Count::Refused(r) => refuse(r),
         Count::Items(n) => {
             *count = n as u64;

@@ -6,3 +6,4 @@ pub mod Datagram
 pub mod Answers
 pub mod Advance
 pub mod Cursor
+pub mod Rows

@@ -1,8 +1,8 @@
 -- A cursor over the items of a datagram, and what it gives next. A cursor that the datagram did not give (one of another
--- datagram, or one whose numbers were made up) ends where a check of the walk would refuse.
+-- datagram, or one whose numbers were made up) ends where it meets something that it cannot read.
 use Prim.Native.Nat.{ℕ, suc, zero, _+_, _-_, _*_}
 use mathlib.Core.List.{List, [], _∷_, _++_}
-use mathlib.Core.Bool.{Bool, cond, _||_}
+use mathlib.Core.Bool.{Bool, not, cond, _&&_, _||_}
 use lib.ListN.{length}
 use lib.Dec.{ltb, leb}
 use Rattle.idms.specs.declared.Placed.{Placed}
@@ -11,7 +11,7 @@ use Rattle.rtcp.specs.declared.cursor.Step.{Step}
 use Rattle.rtcp.specs.declared.cursor.Advance.{Advance}
 use Rattle.rtcp.specs.Refusals.{Check, passed, refused}
 use Rattle.rtcp.specs.Bytes.{be32}
-use Rattle.rtcp.specs.Packet.{byType, packetType, count, size, content, headCheck}
+use Rattle.rtcp.specs.Packet.{byType, packetType, count, size, content, contentIsShort}
 use Rattle.rtcp.specs.Report.{blockSize, blockCheck, blockItems}
 use Rattle.rtcp.specs.Settings.{settingsItem}
 use Rattle.rtcp.specs.Farewell.{farewellItem}
@@ -20,6 +20,11 @@ use Rattle.rtcp.specs.Datagram.{sourceItems, blocksItems, packetsItems}
 -- the packet behind p
 abbrev pub past : List ℕ → ℕ → Cursor
 past d p = Cursor.Packet (p + size d p)
+
+-- The packet lies in the datagram and has its least content: what a cursor looks at again. Checks 2 to 5 say so of
+-- every packet of a datagram that is not refused.
+unfoldable pub readable : List ℕ → ℕ → Bool
+readable d p = leb (p + size d p) (length d) && not (contentIsShort (packetType d p) (count d p) (content d p))
 
 -- a packet is taken apart by its type
 unfoldable pub entered : List ℕ → ℕ → Advance
@@ -47,7 +52,7 @@ unlessRefused (refused number place) a = Advance.End
 
 -- one step over a packet's head, a source or a block
 unfoldable pub advance : List ℕ → Cursor → Advance
-advance d (Cursor.Packet p) = cond (ltb (length d - p) 4) Advance.End (unlessRefused (headCheck d p) (entered d p))
+advance d (Cursor.Packet p) = cond (ltb (length d - p) 4) Advance.End (cond (readable d p) (entered d p) Advance.End)
 advance d (Cursor.Sources at stop next) =
     cond (leb stop at) (Advance.Onward (Cursor.Packet next))
     (cond (torn d at stop) Advance.End

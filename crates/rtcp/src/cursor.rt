@@ -1,8 +1,9 @@
 // A cursor over the items of a datagram.
 use crate::bytes::read32;
-use crate::packet::Entry;
 use crate::packet::Head;
-use crate::packet::head_at;
+use crate::packet::is_short;
+use crate::packet::known_head;
+use crate::packet::packet_size;
 use crate::report::Block;
 use crate::report::block_at;
 use crate::report::report_at;
@@ -13,13 +14,13 @@ use idms::Item;
 use idms::Placed;
 use idms::Refusal;
 ghost use mathlib.Core.Path.{_≡_};
+ghost use mathlib.Core.Bool.{true};
 ghost use Prim.Native.Nat.{_+_, _-_, _≤_, _<_};
 ghost use lib.ListN.{length, getD};
 ghost use Rattle.rtcp.specs.Refusals.{passed};
-ghost use Rattle.rtcp.specs.Packet.{headCheck};
 ghost use Rattle.rtcp.specs.Head.{headOf};
 ghost use Rattle.rtcp.specs.Datagram.{datagramCheck, datagramItems};
-ghost use Rattle.rtcp.specs.Cursor.{entered, advance, torn, nextOf};
+ghost use Rattle.rtcp.specs.Cursor.{readable, entered, advance, torn, nextOf};
 ghost use Rattle.rtcp.specs.Answers.{nothing, openedOf};
 
 // Where a walk over a datagram stands.
@@ -71,9 +72,9 @@ fn is_torn(d: &[u8], at: usize, stop: usize) -> bool
     minus(stop, at) < 4
 }
 
-// Takes the packet at p, whose header has passed, apart by its type.
+// Takes the packet at p, which is readable, apart by its type.
 fn enter(d: &[u8], p: usize, h: Head) -> Advance
-    requires { ⌜ (h ≡ headOf (now d) p) × (headCheck (now d) p ≡ passed) ⌝ }
+    requires { ⌜ (h ≡ headOf (now d) p) × (readable (now d) p ≡ true) ⌝ }
     ensures { λ r. ⌜ r ≡ entered (now (d .entry)) p ⌝ }
 {
     let kind = h.kind;
@@ -99,10 +100,15 @@ fn at_packet(d: &[u8], p: usize) -> Advance
     if minus(d.len(), p) < 4 {
         return Advance::End;
     }
-    match head_at(d, p) {
-        Entry::Refused(_) => Advance::End,
-        Entry::Head(h) => enter(d, p, h),
+    let bytes = packet_size(d, p);
+    if d.len() < p + bytes {
+        return Advance::End;
     }
+    let h = known_head(d, p, bytes);
+    if is_short(h.kind, h.count, h.content) {
+        return Advance::End;
+    }
+    enter(d, p, h)
 }
 
 // A step at a source.

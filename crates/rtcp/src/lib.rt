@@ -5,6 +5,7 @@ mod bytes;
 mod cursor;
 mod packet;
 mod report;
+mod rows;
 mod settings;
 mod walk;
 
@@ -13,6 +14,7 @@ pub use cursor::Opened;
 pub use cursor::Step;
 pub use cursor::next_item;
 pub use cursor::open_datagram;
+pub use rows::read_rows;
 pub use walk::Count;
 pub use walk::Found;
 pub use walk::count_items;

@@ -6,15 +6,15 @@ ghost use Prim.Native.Nat.{_+_, _-_, _/_, _%_, _≤_, _<_};
 ghost use lib.ListN.{length};
 ghost use lib.Dec.{eqb, ltb};
 ghost use Rattle.rtcp.specs.Packet.{size, padded, paddingIsBad, content, contentIsShort, opens};
-ghost use Rattle.rtcp.specs.Head.{entry};
+ghost use Rattle.rtcp.specs.Head.{headOf, entry};
 
-const BAD_PACKET: u32 = 2;
+const BAD_PACKET: u64 = 2;
 
-const BAD_PADDING: u32 = 3;
+const BAD_PADDING: u64 = 3;
 
-const BAD_FIRST: u32 = 4;
+const BAD_FIRST: u64 = 4;
 
-const SHORT_CONTENT: u32 = 5;
+const SHORT_CONTENT: u64 = 5;
 
 // What later steps use of a header. `content` counts the header and not the padding.
 pub(crate) struct Head {
@@ -27,7 +27,7 @@ pub(crate) struct Head {
 // A header that passed checks 2 to 5, or the number of the first that it did not.
 pub(crate) enum Entry {
     Head(Head),
-    Refused(u32),
+    Refused(u64),
 }
 
 // The bytes of the packet at p.
@@ -120,7 +120,7 @@ fn is_bad_first(p: usize, kind: u8) -> bool
 }
 
 // Check 5: each type with its own least content.
-fn is_short(kind: u8, count: usize, content: usize) -> bool
+pub(crate) fn is_short(kind: u8, count: usize, content: usize) -> bool
     requires { ⌜ count < 32 ⌝ }
     ensures { λ r. ⌜ r ≡ contentIsShort kind count content ⌝ }
 {
@@ -134,13 +134,26 @@ fn is_short(kind: u8, count: usize, content: usize) -> bool
     }
 }
 
+// The header of the packet at p, which lies in the datagram.
+pub(crate) fn known_head(d: &[u8], p: usize, bytes: usize) -> Head
+    requires { ⌜ (bytes ≡ size (now d) p) × (p + bytes ≤ length (now d)) ⌝ }
+    ensures { λ r. ⌜ (r ≡ headOf (now (d .entry)) p) × (r .count < 32) ⌝ }
+{
+    let count = (d[p] % 32) as usize;
+    Head {
+        kind: d[p + 1],
+        count,
+        bytes,
+        content: unpadded(d, p, bytes),
+    }
+}
+
 // The header of the packet at p, once checks 2, 3, 4 and 5 have passed.
 pub(crate) fn head_at(d: &[u8], p: usize) -> Entry
     requires { ⌜ p + 4 ≤ length (now d) ⌝ }
     ensures { λ r. ⌜ r ≡ entry (now (d .entry)) p ⌝ }
 {
-    let first = d[p];
-    if first / 64 != 2 {
+    if d[p] / 64 != 2 {
         return Entry::Refused(BAD_PACKET);
     }
     let bytes = packet_size(d, p);
@@ -150,19 +163,12 @@ pub(crate) fn head_at(d: &[u8], p: usize) -> Entry
     if is_badly_padded(d, p, bytes) {
         return Entry::Refused(BAD_PADDING);
     }
-    let kind = d[p + 1];
-    if is_bad_first(p, kind) {
+    let h = known_head(d, p, bytes);
+    if is_bad_first(p, h.kind) {
         return Entry::Refused(BAD_FIRST);
     }
-    let content = unpadded(d, p, bytes);
-    let count = (first % 32) as usize;
-    if is_short(kind, count, content) {
+    if is_short(h.kind, h.count, h.content) {
         return Entry::Refused(SHORT_CONTENT);
     }
-    Entry::Head(Head {
-        kind,
-        count,
-        bytes,
-        content,
-    })
+    Entry::Head(h)
 }

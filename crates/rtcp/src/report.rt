@@ -11,14 +11,14 @@ ghost use lib.Dec.{eqb};
 ghost use Rattle.rtcp.specs.Head.{blockIs};
 ghost use Rattle.rtcp.specs.Report.{reportAt};
 
-const BLOCK_PAST_END: u32 = 6;
+const BLOCK_PAST_END: u64 = 6;
 
-const BAD_BLOCK_LENGTH: u32 = 7;
+const BAD_BLOCK_LENGTH: u64 = 7;
 
 // What is found at a block: how many bytes it takes and how many items it gives, or the number of its refusal.
 pub(crate) enum Block {
     Whole(usize, usize),
-    Refused(u32),
+    Refused(u64),
 }
 
 // Whether a block of type 12 reports: role 1 does, and 0 and 2 to 15 do not.
@@ -32,7 +32,7 @@ fn is_reporting(role: u8) -> bool
 }
 
 // How many items a block gives, by its type and, for type 12, its role.
-fn items_of(kind: u8, role: u8) -> usize
+pub(crate) fn items_of(kind: u8, role: u8) -> usize
     ensures { λ r. ⌜ r ≡ cond (eqb kind 12 && eqb role 1) 1 0 ⌝ }
 {
     match kind {

@@ -18,9 +18,9 @@ ghost use Rattle.rtcp.specs.Head.{headOf};
 ghost use Rattle.rtcp.specs.Datagram.{blocksCheck, blocksItems, packetCheck, packetItems, packetsCheck, packetsItems, lengthIsBad};
 ghost use Rattle.rtcp.specs.Answers.{counted, countOf, itemOf};
 
-const BAD_LENGTH: u32 = 1;
+const BAD_LENGTH: u64 = 1;
 
-const NO_SUCH_ITEM: u32 = 9;
+const NO_SUCH_ITEM: u64 = 9;
 
 // How many items a datagram has.
 pub enum Count {

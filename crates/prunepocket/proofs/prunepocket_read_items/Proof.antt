@@ -1,4 +1,4 @@
-use Rattle.rows.specs.Rows.{rowsAnswer}
+use Rattle.rtcp.specs.Rows.{rowsAnswer}
 use Rattle.rtcp.specs.declared.walk.Count.{Count}
 use Rattle.prunepocket.specs.Answers.{counting, counted, refusing}
 use mathlib.Core.Path.{_≡_, refl, sym, ap, _∙_}
@@ -9,7 +9,7 @@ use Rattle.prunepocket.proofs.prunepocket_read_items.Reads as reads
 use Rattle.prunepocket.proofs.prunepocket_read_items.Lts as lts
 use Rattle.prunepocket.proofs.accept.Reads as accept-reads
 use Rattle.prunepocket.proofs.refuse.Reads as refuse-reads
-use Rattle.rows.proofs.read_rows.Reads as read-rows-reads
+use Rattle.rtcp.proofs.read_rows.Reads as read-rows-reads
 
 -- src/lib.rt:94:11
 read-rows-requires : tie.Need-read-rows-requires

@@ -2,24 +2,42 @@
 use Prim.Native.Nat.{ℕ, suc, _+_, _-_, _*_, _≤_, _<_}
 use mathlib.Core.Path.{_≡_, refl, sym, ap, _∙_}
 use mathlib.Core.List.{List, [], _∷_}
-use mathlib.Core.Bool.{Bool, true, false}
+use mathlib.Core.Bool.{Bool, true, false, not}
 use lib.ListN.{length}
 use lib.Dec.{ltb, leb}
 use native.Mathlib.Omega.{arith}
-use borrow.Author.Tests.{lt-ltb, le-ltb, le-leb, lt-leb, ltb-true, ltb-false, leb-true, leb-false}
+use borrow.Author.Tests.{lt-ltb, le-ltb, le-leb, lt-leb, ltb-false, leb-true, not-true}
 use Rattle.idms.specs.declared.Item.{Item}
 use Rattle.rtcp.specs.declared.cursor.Cursor.{Cursor}
 use Rattle.rtcp.specs.declared.cursor.Advance.{Advance}
 use Rattle.rtcp.specs.Refusals.{Check, passed, refused}
 use Rattle.rtcp.specs.Bytes.{be32}
-use Rattle.rtcp.specs.Packet.{packetType, count, size, content, headCheck}
+use Rattle.rtcp.specs.Packet.{packetType, count, size, content, contentIsShort}
 use Rattle.rtcp.specs.Report.{blockSize, blockCheck, reports, reportAt, blockItems}
 use Rattle.rtcp.specs.Settings.{settingsItem}
 use Rattle.rtcp.specs.Farewell.{farewellItem}
-use Rattle.rtcp.specs.Cursor.{past, entered, torn, advance, left}
+use Rattle.rtcp.specs.Cursor.{past, readable, entered, torn, advance, left}
 use Rattle.rtcp.proofs.Laws.Types.{byType-bye, byType-xr, byType-settings, byType-unread}
-use Rattle.rtcp.proofs.Laws.Packet.{or-false}
-use Rattle.rtcp.proofs.Laws.Blocks.{items-none, items-one, block-inside}
+use Rattle.rtcp.proofs.Laws.Packet.{or-false, content-inside}
+use Rattle.rtcp.proofs.Laws.Blocks.{items-none, items-one, block-inside, and-left, and-right}
+
+-- ---- readable
+
+pub record Readable (d : List ℕ) (p : ℕ) : Type 0 where
+  pub fits : p + size d p ≤ length d
+  pub inside : content d p ≤ size d p
+  pub enough : contentIsShort (packetType d p) (count d p) (content d p) ≡ false
+
+pub readable-packet : (d : List ℕ) (p : ℕ) → readable d p ≡ true → Readable d p
+unfolding readable
+readable-packet d p h =
+    let fits : Bool = leb (p + size d p) (length d) in
+    let enough : Bool = not (contentIsShort (packetType d p) (count d p) (content d p)) in
+    record {
+      fits = leb-true (p + size d p) (length d) (and-left fits enough h);
+      inside = content-inside d p;
+      enough = not-true (contentIsShort (packetType d p) (count d p) (content d p)) (and-right fits enough h)
+    }
 
 -- ---- at a packet
 
@@ -28,17 +46,29 @@ module _ (d : List ℕ) (p : ℕ) where
   unfolding advance
   packet-torn h = rw (lt-ltb (length d - p) 4 h)
 
-  pub packet-stops : (number place : ℕ) → headCheck d p ≡ refused number place → advance d (Cursor.Packet p) ≡ Advance.End
+  pub packet-stops : 4 ≤ length d - p → readable d p ≡ false → advance d (Cursor.Packet p) ≡ Advance.End
   unfolding advance
-  packet-stops number place e = rw e (either (ltb (length d - p) 4))
-    where
-      either : (t : Bool) → mathlib.Core.Bool.cond t Advance.End Advance.End ≡ Advance.End
-      either true = refl
-      either false = refl
+  packet-stops h e = rw (le-ltb (length d - p) 4 h, e)
 
-  pub packet-entered : 4 ≤ length d - p → headCheck d p ≡ passed → advance d (Cursor.Packet p) ≡ entered d p
+  pub packet-entered : 4 ≤ length d - p → readable d p ≡ true → advance d (Cursor.Packet p) ≡ entered d p
   unfolding advance
   packet-entered h e = rw (le-ltb (length d - p) 4 h, e)
+
+  pub unreadable-long : length d < p + size d p → readable d p ≡ false
+  unfolding readable
+  unreadable-long h = rw (lt-leb (p + size d p) (length d) h)
+
+  pub unreadable-short :
+      p + size d p ≤ length d → contentIsShort (packetType d p) (count d p) (content d p) ≡ true → readable d p ≡ false
+  unfolding readable
+  unreadable-short h e = rw (le-leb (p + size d p) (length d) h, e)
+
+  pub readable-there :
+      p + size d p ≤ length d → contentIsShort (packetType d p) (count d p) (content d p) ≡ false → readable d p ≡ true
+  unfolding readable
+  readable-there h e = rw (le-leb (p + size d p) (length d) h, e)
+
+  -- ---- entered, by type
 
   pub entered-bye :
       packetType d p ≡ 203

@@ -40,11 +40,11 @@ pub block-inside : (d : List ℕ) (stop at : ℕ) → blockCheck d stop at ≡ p
 unfolding blockCheck
 block-inside d stop at h = ltb-false stop (at + blockSize d at) (check-passes (ltb stop (at + blockSize d at)) _ _ _ h .0)
 
-and-left : (a b : Bool) → (a && b) ≡ true → a ≡ true
+pub and-left : (a b : Bool) → (a && b) ≡ true → a ≡ true
 and-left true b h = refl
 and-left false b h = h
 
-and-right : (a b : Bool) → (a && b) ≡ true → b ≡ true
+pub and-right : (a b : Bool) → (a && b) ≡ true → b ≡ true
 and-right true b h = h
 and-right false b h = let z : _≡_ {A = ℕ} 0 1 = cc in absurd (omega arith)
 

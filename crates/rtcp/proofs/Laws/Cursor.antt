@@ -17,13 +17,12 @@ use Rattle.rtcp.specs.Bytes.{be32}
 use Rattle.rtcp.specs.Packet.{packetType, count, size, content, headCheck}
 use Rattle.rtcp.specs.Report.{blockSize, blockCheck, reports, blockItems}
 use Rattle.rtcp.specs.Datagram.{sourceItems, blocksCheck, blocksItems, packetCheck, packetItems, packetsCheck, packetsItems, lengthIsBad, datagramCheck, datagramItems}
-use Rattle.rtcp.specs.Cursor.{past, entered, torn, advance, left, seek, nextOf, start, remaining, given}
-use Rattle.rtcp.proofs.Laws.Walk.{both-pass, checks-part, gives-part, gives-end}
-use Rattle.rtcp.proofs.Laws.Packet.{check-passes, HeadPassed, head-passed, least-bye, least-xr, exact-settings}
+use Rattle.rtcp.specs.Cursor.{past, readable, entered, torn, advance, left, seek, nextOf, start, remaining, given}
+use Rattle.rtcp.proofs.Laws.Packet.{check-passes, HeadPassed, head-passed, least-bye, least-xr}
 use Rattle.rtcp.proofs.Laws.Blocks.{items-none, items-one, block-inside}
-use Rattle.rtcp.proofs.Laws.Datagram.{sources-part, sources-end, items-bye, items-xr, items-settings, items-unread, check-xr, head-of-packet, Apart, bye, xr, settings, unread, apart}
+use Rattle.rtcp.proofs.Laws.Datagram.{sources-part, sources-end, blocks-turn, blocks-end, PacketsTurn, packets-turn, packets-end, items-bye, items-xr, items-settings, items-unread, check-xr, head-of-packet, Apart, bye, xr, settings, unread, apart}
 use Rattle.rtcp.proofs.Laws.Answers.{length-words}
-use Rattle.rtcp.proofs.Laws.Advance.{packet-torn, packet-stops, packet-entered, entered-bye, entered-xr, entered-settings, entered-unread, sources-behind, sources-torn, sources-item, blocks-behind, blocks-torn, blocks-stop, blocks-pass, blocks-item, whole-word, torn-not}
+use Rattle.rtcp.proofs.Laws.Advance.{packet-torn, packet-stops, packet-entered, readable-there, Readable, readable-packet, entered-bye, entered-xr, entered-settings, entered-unread, sources-behind, sources-torn, sources-item, blocks-behind, blocks-torn, blocks-stop, blocks-pass, blocks-item, whole-word, torn-not}
 
 -- ---- left falls with each step that gives no item
 
@@ -33,33 +32,33 @@ data Falls (d : List ℕ) (c : Cursor) : Advance → Type 0 where
   gives : (x : Placed) (n : Cursor) → Falls d c (Advance.Item x n)
   falls : (n : Cursor) → left d n < left d c → Falls d c (Advance.Onward n)
 
-entered-falls : (d : List ℕ) (p : ℕ) → 4 ≤ length d - p → headCheck d p ≡ passed → Falls d (Cursor.Packet p) (entered d p)
+entered-falls : (d : List ℕ) (p : ℕ) → 4 ≤ length d - p → readable d p ≡ true → Falls d (Cursor.Packet p) (entered d p)
 entered-falls d p h e = go (apart (packetType d p))
   where
-    known : HeadPassed d p
-    known = head-passed d p e
-
+    known : Readable d p
+    known = readable-packet d p e
     go : Apart (packetType d p) → Falls d (Cursor.Packet p) (entered d p)
     go (bye t) =
         rw (entered-bye d p t)
         (falls (Cursor.Sources (p + 4) (p + (4 + 4 * count d p)) (p + size d p))
         (omega (arith, known .fits, known .inside, least-bye _ _ _ (known .enough) t)))
     go (xr t) =
-        rw (entered-xr d p t) (falls (Cursor.Blocks (be32 d (p + 4)) (p + 8) (p + content d p) (p + size d p))
+        rw (entered-xr d p t)
+        (falls (Cursor.Blocks (be32 d (p + 4)) (p + 8) (p + content d p) (p + size d p))
         (omega (arith, known .fits, known .inside, least-xr _ _ _ (known .enough) t)))
     go (settings t) = rw (entered-settings d p t) (gives _ _)
     go (unread a b c) = rw (entered-unread d p a b c) (falls (past d p) (omega (arith, known .fits)))
 
 advance-falls : (d : List ℕ) (c : Cursor) → Falls d c (advance d c)
-advance-falls d (Cursor.Packet p) = go (ltb (length d - p) 4) refl (headCheck d p) refl
+advance-falls d (Cursor.Packet p) = go (ltb (length d - p) 4) refl (readable d p) refl
   where
     go :
-        (t : Bool) → ltb (length d - p) 4 ≡ t → (k : Check) → headCheck d p ≡ k
+        (t : Bool) → ltb (length d - p) 4 ≡ t → (k : Bool) → readable d p ≡ k
         → Falls d (Cursor.Packet p) (advance d (Cursor.Packet p))
     go true t k e = rw (packet-torn d p (ltb-true (length d - p) 4 t)) ends
-    go false t passed e =
+    go false t true e =
         rw (packet-entered d p (ltb-false (length d - p) 4 t) e) (entered-falls d p (ltb-false (length d - p) 4 t) e)
-    go false t (refused number place) e = rw (packet-stops d p number place e) ends
+    go false t false e = rw (packet-stops d p (ltb-false (length d - p) 4 t) e) ends
 advance-falls d (Cursor.Sources at stop next) = go (leb stop at) refl (torn d at stop) refl
   where
     go : (t : Bool) → leb stop at ≡ t → (b : Bool) → torn d at stop ≡ b → Falls d (Cursor.Sources at stop next) (advance d (Cursor.Sources at stop next))
@@ -152,22 +151,14 @@ data Steps (d : List ℕ) (c : Cursor) : Advance → Type 0 where
   went : (n : Cursor) → remaining d c ≡ remaining d n → Good d n → Steps d c (Advance.Onward n)
 
 module _ (d : List ℕ) (p : ℕ) (h : p < length d) (w : (length d - p) % 4 ≡ 0) (e : packetsCheck d p ≡ passed) where
-  both : (packetCheck d p ≡ passed) × (packetsCheck d (p + size d p) ≡ passed)
-  both =
-      both-pass (packetCheck d p) (packetsCheck d (p + size d p))
-      (sym (checks-part (packetCheck d) (packetItems d) (size d) (length d) (λ k. omega arith) p h) ∙ e)
+  turn : PacketsTurn d p
+  turn = packets-turn d p h e
 
-  head : headCheck d p ≡ passed
-  head = head-of-packet d p (both .0)
+  behind : Good d (past d p)
+  behind = (omega (arith, turn .known .fits), turn .later)
 
-  known : HeadPassed d p
-  known = head-passed d p head
-
-  behind : (length d - (p + size d p)) % 4 ≡ 0
-  behind = omega (arith, known .fits)
-
-  items-here : packetsItems d p ≡ packetItems d p ++ packetsItems d (p + size d p)
-  items-here = gives-part (packetCheck d) (packetItems d) (size d) (length d) (λ k. omega arith) p h
+  items-as : {l : List Placed} → packetItems d p ≡ l → packetsItems d p ≡ l ++ packetsItems d (p + size d p)
+  items-as i = turn .items ∙ ap (λ (l : List Placed). l ++ packetsItems d (p + size d p)) i
 
   entered-steps : Steps d (Cursor.Packet p) (entered d p)
   entered-steps = go (apart (packetType d p))
@@ -176,31 +167,23 @@ module _ (d : List ℕ) (p : ℕ) (h : p < length d) (w : (length d - p) % 4 ≡
       go (bye t) =
           rw (entered-bye d p t)
           (went (Cursor.Sources (p + 4) (p + (4 + 4 * count d p)) (p + size d p))
-          (items-here ∙ ap (λ (l : List Placed). l ++ packetsItems d (p + size d p)) (items-bye d p t))
-          (omega (arith, known .fits, known .inside, least-bye _ _ _ (known .enough) t), omega arith, behind, both .1))
+          (items-as (items-bye d p t))
+          (omega (arith, turn .known .fits, turn .known .inside, least-bye _ _ _ (turn .known .enough) t), omega arith, behind .0, behind .1))
       go (xr t) =
           rw (entered-xr d p t)
           (went (Cursor.Blocks (be32 d (p + 4)) (p + 8) (p + content d p) (p + size d p))
-          (items-here ∙ ap (λ (l : List Placed). l ++ packetsItems d (p + size d p)) (items-xr d p t)) (
-            omega (arith, known .fits, known .inside),
-            omega (arith, known .words, least-xr _ _ _ (known .enough) t),
-            behind,
-            both .1,
-            sym (check-xr d p head t) ∙ both .0,
-          ))
-      go (settings t) =
-          rw (entered-settings d p t)
-          (gave _ (past d p)
-          (items-here ∙ ap (λ (l : List Placed). l ++ packetsItems d (p + size d p)) (items-settings d p t))
-          (behind, both .1))
-      go (unread a b c) =
-          rw (entered-unread d p a b c)
-          (went (past d p)
-          (items-here ∙ ap (λ (l : List Placed). l ++ packetsItems d (p + size d p)) (items-unread d p a b c))
-          (behind, both .1))
+          (items-as (items-xr d p t))
+          (omega (arith, turn .known .fits, turn .known .inside),
+            omega (arith, turn .known .words, least-xr _ _ _ (turn .known .enough) t),
+            behind .0,
+            behind .1,
+            sym (check-xr d p (turn .head) t) ∙ turn .check))
+      go (settings t) = rw (entered-settings d p t) (gave _ (past d p) (items-as (items-settings d p t)) behind)
+      go (unread a b c) = rw (entered-unread d p a b c) (went (past d p) (items-as (items-unread d p a b c)) behind)
 
   packet-steps : Steps d (Cursor.Packet p) (advance d (Cursor.Packet p))
-  packet-steps = rw (packet-entered d p (omega arith) head) entered-steps
+  packet-steps =
+      rw (packet-entered d p (omega arith) (readable-there d p (turn .known .fits) (turn .known .enough))) entered-steps
 
 advance-steps : (d : List ℕ) (c : Cursor) → Good d c → Steps d c (advance d c)
 advance-steps d (Cursor.Packet p) good = go (ltb p (length d)) refl
@@ -210,7 +193,7 @@ advance-steps d (Cursor.Packet p) good = go (ltb p (length d)) refl
     go false t =
         let over : length d ≤ p = ltb-false p (length d) t in
         rw (packet-torn d p (omega arith))
-        (ended (gives-end (packetCheck d) (packetItems d) (size d) (length d) (λ k. omega arith) p over))
+        (ended (packets-end d p over))
 advance-steps d (Cursor.Sources at stop next) good = go (leb stop at) refl
   where
     go : (t : Bool) → leb stop at ≡ t → Steps d (Cursor.Sources at stop next) (advance d (Cursor.Sources at stop next))
@@ -231,31 +214,24 @@ advance-steps d (Cursor.Blocks sender at stop next) good = go (leb stop at) refl
         let over : stop ≤ at = leb-true stop at t in
         rw (blocks-behind d sender at stop next over)
         (went (Cursor.Packet next)
-        (ap (λ (l : List Placed). l ++ packetsItems d next)
-        (gives-end (blockCheck d stop) (blockItems d sender) (blockSize d) stop (λ k. omega arith) at over))
+        (ap (λ (l : List Placed). l ++ packetsItems d next) (blocks-end d sender stop at over))
         (good .2, good .3))
     go false t true g =
         let here : at < stop = leb-false stop at t in
-        let two : _ =
-        both-pass (blockCheck d stop at) (blocksCheck d stop (at + blockSize d at))
-        (sym (checks-part (blockCheck d stop) (blockItems d sender) (blockSize d) stop (λ k. omega arith) at here) ∙ good .4) in
-        rw (blocks-item d sender at stop next here (whole-word d at stop (good .0) (omega (arith, good .1))) (two .0) g)
+        let turn : _ = blocks-turn d sender stop at here (good .4) in
+        rw (blocks-item d sender at stop next here (whole-word d at stop (good .0) (omega (arith, good .1))) (turn .check) g)
         (gave _ (Cursor.Blocks sender (at + blockSize d at) stop next)
         (ap (λ (l : List Placed). l ++ packetsItems d next)
-        (gives-part (blockCheck d stop) (blockItems d sender) (blockSize d) stop (λ k. omega arith) at here
-        ∙ ap (λ (l : List Placed). l ++ blocksItems d sender stop (at + blockSize d at)) (items-one d sender at g)))
-        (good .0, omega (arith, good .1, block-inside d stop at (two .0)), good .2, good .3, two .1))
+        (turn .items ∙ ap (λ (l : List Placed). l ++ blocksItems d sender stop (at + blockSize d at)) (items-one d sender at g)))
+        (good .0, omega (arith, good .1, turn .inside), good .2, good .3, turn .later))
     go false t false g =
         let here : at < stop = leb-false stop at t in
-        let two : _ =
-        both-pass (blockCheck d stop at) (blocksCheck d stop (at + blockSize d at))
-        (sym (checks-part (blockCheck d stop) (blockItems d sender) (blockSize d) stop (λ k. omega arith) at here) ∙ good .4) in
-        rw (blocks-pass d sender at stop next here (whole-word d at stop (good .0) (omega (arith, good .1))) (two .0) g)
+        let turn : _ = blocks-turn d sender stop at here (good .4) in
+        rw (blocks-pass d sender at stop next here (whole-word d at stop (good .0) (omega (arith, good .1))) (turn .check) g)
         (went (Cursor.Blocks sender (at + blockSize d at) stop next)
         (ap (λ (l : List Placed). l ++ packetsItems d next)
-        (gives-part (blockCheck d stop) (blockItems d sender) (blockSize d) stop (λ k. omega arith) at here
-        ∙ ap (λ (l : List Placed). l ++ blocksItems d sender stop (at + blockSize d at)) (items-none d sender at g)))
-        (good .0, omega (arith, good .1, block-inside d stop at (two .0)), good .2, good .3, two .1))
+        (turn .items ∙ ap (λ (l : List Placed). l ++ blocksItems d sender stop (at + blockSize d at)) (items-none d sender at g)))
+        (good .0, omega (arith, good .1, turn .inside), good .2, good .3, turn .later))
 
 -- ---- what a good cursor gives next
 

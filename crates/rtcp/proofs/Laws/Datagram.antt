@@ -18,7 +18,7 @@ use Rattle.rtcp.specs.Farewell.{farewellItem}
 use Rattle.rtcp.specs.Datagram.{sourceItems, blocksCheck, blocksItems, packetCheck, packetItems, packetsCheck, packetsItems, datagramItems}
 use Rattle.rtcp.specs.Answers.{counted, refusal}
 use Rattle.rtcp.proofs.Laws.Types.{byType-bye, byType-xr, byType-settings, byType-unread}
-use Rattle.rtcp.proofs.Laws.Walk.{walk-part, walk-end, both-pass, Roomy, gives-bound}
+use Rattle.rtcp.proofs.Laws.Walk.{walk-part, walk-end, both-pass, checks-part, gives-part, gives-end, Roomy, gives-bound}
 use Rattle.rtcp.proofs.Laws.Packet.{HeadPassed, head-passed, least-bye, least-xr, exact-settings}
 use Rattle.rtcp.proofs.Laws.Blocks.{block-inside, length-blockItems, one-or-none}
 
@@ -38,6 +38,30 @@ pub length-sourceItems : (d : List ℕ) (n stop at : ℕ) → stop ≡ at + 4 * 
 length-sourceItems d zero stop at e = rw (sources-end d stop at (omega arith))
 length-sourceItems d (suc n) stop at e =
     rw (sources-part d stop at (omega arith)) (ap suc (length-sourceItems d n stop (at + 4) (omega arith)))
+
+-- ---- blocksCheck and blocksItems, at a block of a packet that has passed
+
+pub record BlocksTurn (d : List ℕ) (sender stop at : ℕ) : Type 0 where
+  pub check : blockCheck d stop at ≡ passed
+  pub inside : at + blockSize d at ≤ stop
+  pub later : blocksCheck d stop (at + blockSize d at) ≡ passed
+  pub items : blocksItems d sender stop at ≡ blockItems d sender at ++ blocksItems d sender stop (at + blockSize d at)
+
+pub blocks-turn :
+    (d : List ℕ) (sender stop at : ℕ) → at < stop → blocksCheck d stop at ≡ passed → BlocksTurn d sender stop at
+blocks-turn d sender stop at h e =
+    let both : _ =
+        both-pass (blockCheck d stop at) (blocksCheck d stop (at + blockSize d at))
+        (sym (checks-part (blockCheck d stop) (blockItems d sender) (blockSize d) stop (λ k. omega arith) at h) ∙ e) in
+    record {
+      check = both .0;
+      inside = block-inside d stop at (both .0);
+      later = both .1;
+      items = gives-part (blockCheck d stop) (blockItems d sender) (blockSize d) stop (λ k. omega arith) at h
+    }
+
+pub blocks-end : (d : List ℕ) (sender stop at : ℕ) → stop ≤ at → blocksItems d sender stop at ≡ []
+blocks-end d sender stop at h = gives-end (blockCheck d stop) (blockItems d sender) (blockSize d) stop (λ k. omega arith) at h
 
 -- ---- packetCheck and packetItems
 
@@ -155,3 +179,28 @@ packet-room d p e = go (apart (packetType d p))
 
 pub packets-roomy : (d : List ℕ) → Roomy (packetCheck d) (packetItems d) (size d) (length d) (λ k. omega arith)
 packets-roomy d p h e = (head-passed d p (head-of-packet d p e) .fits, packet-room d p e)
+
+-- ---- packetsCheck and packetsItems, at a packet of a datagram that has passed
+
+pub record PacketsTurn (d : List ℕ) (p : ℕ) : Type 0 where
+  pub check : packetCheck d p ≡ passed
+  pub head : headCheck d p ≡ passed
+  pub known : HeadPassed d p
+  pub later : packetsCheck d (p + size d p) ≡ passed
+  pub items : packetsItems d p ≡ packetItems d p ++ packetsItems d (p + size d p)
+
+pub packets-turn : (d : List ℕ) (p : ℕ) → p < length d → packetsCheck d p ≡ passed → PacketsTurn d p
+packets-turn d p h e =
+    let both : _ =
+        both-pass (packetCheck d p) (packetsCheck d (p + size d p))
+        (sym (checks-part (packetCheck d) (packetItems d) (size d) (length d) (λ k. omega arith) p h) ∙ e) in
+    record {
+      check = both .0;
+      head = head-of-packet d p (both .0);
+      known = head-passed d p (head-of-packet d p (both .0));
+      later = both .1;
+      items = gives-part (packetCheck d) (packetItems d) (size d) (length d) (λ k. omega arith) p h
+    }
+
+pub packets-end : (d : List ℕ) (p : ℕ) → length d ≤ p → packetsItems d p ≡ []
+packets-end d p h = gives-end (packetCheck d) (packetItems d) (size d) (length d) (λ k. omega arith) p h

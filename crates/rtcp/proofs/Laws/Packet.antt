@@ -24,6 +24,13 @@ pub content-bare : (d : List ℕ) (p : ℕ) → padded d p ≡ false → content
 unfolding content
 content-bare d p e = rw e
 
+pub content-inside : (d : List ℕ) (p : ℕ) → content d p ≤ size d p
+content-inside d p = go (padded d p) refl
+  where
+    go : (t : Bool) → padded d p ≡ t → content d p ≤ size d p
+    go true e = rw (content-padded d p e) (omega arith)
+    go false e = rw (content-bare d p e) (omega arith)
+
 -- ---- paddingIsBad
 
 pub unpadded-is-fine : (d : List ℕ) (p : ℕ) → padded d p ≡ false → paddingIsBad d p ≡ false

@@ -1,7 +1,7 @@
 use Rattle.idms.specs.declared.Item.{Item}
 use Rattle.rtcp.specs.Bytes.{be32}
-use Rattle.rtcp.proofs.Laws.Advance.{entered-bye, entered-xr, entered-settings, entered-unread}
-use Rattle.rtcp.proofs.Laws.Packet.{HeadPassed, head-passed, least-bye, least-xr, exact-settings}
+use Rattle.rtcp.proofs.Laws.Advance.{readable-packet, entered-bye, entered-xr, entered-settings, entered-unread}
+use Rattle.rtcp.proofs.Laws.Packet.{least-bye, least-xr, exact-settings}
 use Rattle.rtcp.specs.Packet.{packetType}
 use Rattle.rtcp.specs.declared.cursor.Advance.{Advance}
 use Rattle.rtcp.specs.declared.cursor.Cursor.{Cursor}
@@ -18,43 +18,43 @@ use Rattle.rtcp.proofs.settings.settings_at.Reads as settings-at-reads
 
 -- src/cursor.rt:71:16
 add-next : tie.Need-add-next
-add-next c = let e : _ = c .before .before .pre .0 in let k : _ = head-passed (c .before .before .args .d .now) (c .before .before .args .p) (c .before .before .pre .1) in let b : _ = ap (λ (x : Head). x .bytes) e in let n : _ = ap (λ (x : Head). x .content) e in let m : _ = ap (λ (x : Head). x .count) e in omega (arith, k .fits, b)
+add-next c = let e : _ = c .before .before .pre .0 in let k : _ = readable-packet (c .before .before .args .d .now) (c .before .before .args .p) (c .before .before .pre .1) in let b : _ = ap (λ (x : Head). x .bytes) e in let n : _ = ap (λ (x : Head). x .content) e in let m : _ = ap (λ (x : Head). x .count) e in omega (arith, k .fits, b)
 
 -- src/cursor.rt:73:48
 add-t7 : tie.Need-add-t7
-add-t7 c = let e : _ = c .before .before .before .pre .0 in let k : _ = head-passed (c .before .before .before .args .d .now) (c .before .before .before .args .p) (c .before .before .before .pre .1) in let b : _ = ap (λ (x : Head). x .bytes) e in let n : _ = ap (λ (x : Head). x .content) e in let m : _ = ap (λ (x : Head). x .count) e in omega (arith, k .fits, b)
+add-t7 c = let e : _ = c .before .before .before .pre .0 in let k : _ = readable-packet (c .before .before .before .args .d .now) (c .before .before .before .args .p) (c .before .before .before .pre .1) in let b : _ = ap (λ (x : Head). x .bytes) e in let n : _ = ap (λ (x : Head). x .content) e in let m : _ = ap (λ (x : Head). x .count) e in omega (arith, k .fits, b)
 
 -- src/cursor.rt:73:64
 mul-t8 : tie.Need-mul-t8
-mul-t8 c = let e : _ = c .before .before .before .before .pre .0 in let k : _ = head-passed (c .before .before .before .before .args .d .now) (c .before .before .before .before .args .p) (c .before .before .before .before .pre .1) in let b : _ = ap (λ (x : Head). x .bytes) e in let n : _ = ap (λ (x : Head). x .content) e in let m : _ = ap (λ (x : Head). x .count) e in let t : packetType (c .before .before .before .before .args .d .now) (c .before .before .before .before .args .p) ≡ 203 = sym (ap (λ (x : Head). x .kind) (c .before .before .before .before .pre .0)) ∙ c .before .match .keys1 in omega (arith, k .fits, m, k .inside, least-bye _ _ _ (k .enough) t)
+mul-t8 c = let e : _ = c .before .before .before .before .pre .0 in let k : _ = readable-packet (c .before .before .before .before .args .d .now) (c .before .before .before .before .args .p) (c .before .before .before .before .pre .1) in let b : _ = ap (λ (x : Head). x .bytes) e in let n : _ = ap (λ (x : Head). x .content) e in let m : _ = ap (λ (x : Head). x .count) e in let t : packetType (c .before .before .before .before .args .d .now) (c .before .before .before .before .args .p) ≡ 203 = sym (ap (λ (x : Head). x .kind) (c .before .before .before .before .pre .0)) ∙ c .before .match .keys1 in omega (arith, k .fits, m, k .inside, least-bye _ _ _ (k .enough) t)
 
 -- src/cursor.rt:73:60
 add-t9 : tie.Need-add-t9
-add-t9 c = let e : _ = c .before .before .before .before .pre .0 in let k : _ = head-passed (c .before .before .before .before .args .d .now) (c .before .before .before .before .args .p) (c .before .before .before .before .pre .1) in let b : _ = ap (λ (x : Head). x .bytes) e in let n : _ = ap (λ (x : Head). x .content) e in let m : _ = ap (λ (x : Head). x .count) e in let t : packetType (c .before .before .before .before .args .d .now) (c .before .before .before .before .args .p) ≡ 203 = sym (ap (λ (x : Head). x .kind) (c .before .before .before .before .pre .0)) ∙ c .before .match .keys1 in omega (arith, k .fits, m, k .inside, least-bye _ _ _ (k .enough) t)
+add-t9 c = let e : _ = c .before .before .before .before .pre .0 in let k : _ = readable-packet (c .before .before .before .before .args .d .now) (c .before .before .before .before .args .p) (c .before .before .before .before .pre .1) in let b : _ = ap (λ (x : Head). x .bytes) e in let n : _ = ap (λ (x : Head). x .content) e in let m : _ = ap (λ (x : Head). x .count) e in let t : packetType (c .before .before .before .before .args .d .now) (c .before .before .before .before .args .p) ≡ 203 = sym (ap (λ (x : Head). x .kind) (c .before .before .before .before .pre .0)) ∙ c .before .match .keys1 in omega (arith, k .fits, m, k .inside, least-bye _ _ _ (k .enough) t)
 
 -- src/cursor.rt:73:55
 add-t10 : tie.Need-add-t10
-add-t10 c = let e : _ = c .before .before .before .before .pre .0 in let k : _ = head-passed (c .before .before .before .before .args .d .now) (c .before .before .before .before .args .p) (c .before .before .before .before .pre .1) in let b : _ = ap (λ (x : Head). x .bytes) e in let n : _ = ap (λ (x : Head). x .content) e in let m : _ = ap (λ (x : Head). x .count) e in let t : packetType (c .before .before .before .before .args .d .now) (c .before .before .before .before .args .p) ≡ 203 = sym (ap (λ (x : Head). x .kind) (c .before .before .before .before .pre .0)) ∙ c .before .match .keys1 in omega (arith, k .fits, m, k .inside, least-bye _ _ _ (k .enough) t)
+add-t10 c = let e : _ = c .before .before .before .before .pre .0 in let k : _ = readable-packet (c .before .before .before .before .args .d .now) (c .before .before .before .before .args .p) (c .before .before .before .before .pre .1) in let b : _ = ap (λ (x : Head). x .bytes) e in let n : _ = ap (λ (x : Head). x .content) e in let m : _ = ap (λ (x : Head). x .count) e in let t : packetType (c .before .before .before .before .args .d .now) (c .before .before .before .before .args .p) ≡ 203 = sym (ap (λ (x : Head). x .kind) (c .before .before .before .before .pre .0)) ∙ c .before .match .keys1 in omega (arith, k .fits, m, k .inside, least-bye _ _ _ (k .enough) t)
 
 -- src/cursor.rt:75:54
 add-read32 : tie.Need-add-read32
-add-read32 c = let e : _ = c .before .before .before .pre .0 in let k : _ = head-passed (c .before .before .before .args .d .now) (c .before .before .before .args .p) (c .before .before .before .pre .1) in let b : _ = ap (λ (x : Head). x .bytes) e in let n : _ = ap (λ (x : Head). x .content) e in let m : _ = ap (λ (x : Head). x .count) e in omega (arith, k .fits, b)
+add-read32 c = let e : _ = c .before .before .before .pre .0 in let k : _ = readable-packet (c .before .before .before .args .d .now) (c .before .before .before .args .p) (c .before .before .before .pre .1) in let b : _ = ap (λ (x : Head). x .bytes) e in let n : _ = ap (λ (x : Head). x .content) e in let m : _ = ap (λ (x : Head). x .count) e in omega (arith, k .fits, b)
 
 -- src/cursor.rt:75:44
 read32-requires : tie.Need-read32-requires
-read32-requires c κs = let e : _ = c .before .before .before .pre .0 in let k : _ = head-passed (c .before .before .before .args .d .now) (c .before .before .before .args .p) (c .before .before .before .pre .1) in let b : _ = ap (λ (x : Head). x .bytes) e in let n : _ = ap (λ (x : Head). x .content) e in let m : _ = ap (λ (x : Head). x .count) e in let t : packetType (c .before .before .before .args .d .now) (c .before .before .before .args .p) ≡ 207 = sym (ap (λ (x : Head). x .kind) (c .before .before .before .pre .0)) ∙ c .match .keys2 in omega (arith, k .fits, k .inside, least-xr _ _ _ (k .enough) t)
+read32-requires c κs = let e : _ = c .before .before .before .pre .0 in let k : _ = readable-packet (c .before .before .before .args .d .now) (c .before .before .before .args .p) (c .before .before .before .pre .1) in let b : _ = ap (λ (x : Head). x .bytes) e in let n : _ = ap (λ (x : Head). x .content) e in let m : _ = ap (λ (x : Head). x .count) e in let t : packetType (c .before .before .before .args .d .now) (c .before .before .before .args .p) ≡ 207 = sym (ap (λ (x : Head). x .kind) (c .before .before .before .pre .0)) ∙ c .match .keys2 in omega (arith, k .fits, k .inside, least-xr _ _ _ (k .enough) t)
 
 -- src/cursor.rt:75:62
 add-t14 : tie.Need-add-t14
-add-t14 c = let e : _ = c .before .before .before .before .pre .0 in let k : _ = head-passed (c .before .before .before .before .args .d .now) (c .before .before .before .before .args .p) (c .before .before .before .before .pre .1) in let b : _ = ap (λ (x : Head). x .bytes) e in let n : _ = ap (λ (x : Head). x .content) e in let m : _ = ap (λ (x : Head). x .count) e in let t : packetType (c .before .before .before .before .args .d .now) (c .before .before .before .before .args .p) ≡ 207 = sym (ap (λ (x : Head). x .kind) (c .before .before .before .before .pre .0)) ∙ c .before .match .keys2 in omega (arith, k .fits, k .inside, least-xr _ _ _ (k .enough) t)
+add-t14 c = let e : _ = c .before .before .before .before .pre .0 in let k : _ = readable-packet (c .before .before .before .before .args .d .now) (c .before .before .before .before .args .p) (c .before .before .before .before .pre .1) in let b : _ = ap (λ (x : Head). x .bytes) e in let n : _ = ap (λ (x : Head). x .content) e in let m : _ = ap (λ (x : Head). x .count) e in let t : packetType (c .before .before .before .before .args .d .now) (c .before .before .before .before .args .p) ≡ 207 = sym (ap (λ (x : Head). x .kind) (c .before .before .before .before .pre .0)) ∙ c .before .match .keys2 in omega (arith, k .fits, k .inside, least-xr _ _ _ (k .enough) t)
 
 -- src/cursor.rt:75:69
 add-t15 : tie.Need-add-t15
-add-t15 c = let e : _ = c .before .before .before .before .before .pre .0 in let k : _ = head-passed (c .before .before .before .before .before .args .d .now) (c .before .before .before .before .before .args .p) (c .before .before .before .before .before .pre .1) in let b : _ = ap (λ (x : Head). x .bytes) e in let n : _ = ap (λ (x : Head). x .content) e in let m : _ = ap (λ (x : Head). x .count) e in omega (arith, k .fits, n, k .inside)
+add-t15 c = let e : _ = c .before .before .before .before .before .pre .0 in let k : _ = readable-packet (c .before .before .before .before .before .args .d .now) (c .before .before .before .before .before .args .p) (c .before .before .before .before .before .pre .1) in let b : _ = ap (λ (x : Head). x .bytes) e in let n : _ = ap (λ (x : Head). x .content) e in let m : _ = ap (λ (x : Head). x .count) e in omega (arith, k .fits, n, k .inside)
 
 -- src/cursor.rt:80:38
 settings-at-requires : tie.Need-settings-at-requires
-settings-at-requires c κs = let e : _ = c .before .before .before .pre .0 in let k : _ = head-passed (c .before .before .before .args .d .now) (c .before .before .before .args .p) (c .before .before .before .pre .1) in let b : _ = ap (λ (x : Head). x .bytes) e in let n : _ = ap (λ (x : Head). x .content) e in let m : _ = ap (λ (x : Head). x .count) e in let t : packetType (c .before .before .before .args .d .now) (c .before .before .before .args .p) ≡ 211 = sym (ap (λ (x : Head). x .kind) (c .before .before .before .pre .0)) ∙ c .match .keys3 in omega (arith, k .fits, k .inside, exact-settings _ _ _ (k .enough) t)
+settings-at-requires c κs = let e : _ = c .before .before .before .pre .0 in let k : _ = readable-packet (c .before .before .before .args .d .now) (c .before .before .before .args .p) (c .before .before .before .pre .1) in let b : _ = ap (λ (x : Head). x .bytes) e in let n : _ = ap (λ (x : Head). x .content) e in let m : _ = ap (λ (x : Head). x .count) e in let t : packetType (c .before .before .before .args .d .now) (c .before .before .before .args .p) ≡ 211 = sym (ap (λ (x : Head). x .kind) (c .before .before .before .pre .0)) ∙ c .match .keys3 in omega (arith, k .fits, k .inside, exact-settings _ _ _ (k .enough) t)
 
 -- src/cursor.rt:66:1
 returns : tie.Need-returns

@@ -1,5 +1,5 @@
 use Rattle.idms.specs.Rows.{rowOf}
-use Rattle.rows.proofs.Laws.{length-rowOf}
+use Rattle.rtcp.proofs.Laws.Rows.{length-rowOf}
 use mathlib.Core.List.{List}
 use native.Mathlib.Numerals.{add-one}
 use lib.Seq.{paste, paste-zero, paste-suc}
@@ -8,10 +8,10 @@ use borrow.Author.Needs.{needs}
 use mathlib.Core.Path.{_≡_, refl, sym, ap, _∙_}
 use native.Mathlib.Omega.{arith}
 use Prim.Native.Nat.{ℕ, suc, _+_, _-_, _*_, _%_, _≤_, _<_}
-use Rattle.rows.proofs.put_row.Statement.{statement}
-use Rattle.rows.proofs.put_row.Tie as tie
-use Rattle.rows.proofs.put_row.Reads as reads
-use Rattle.rows.proofs.put_row.Lts as lts
+use Rattle.rtcp.proofs.rows.put_row.Statement.{statement}
+use Rattle.rtcp.proofs.rows.put_row.Tie as tie
+use Rattle.rtcp.proofs.rows.put_row.Reads as reads
+use Rattle.rtcp.proofs.rows.put_row.Lts as lts
 use Rattle.idms.proofs.row.Reads as row-reads
 
 abbrev Inv-loop : tie.InvT-loop

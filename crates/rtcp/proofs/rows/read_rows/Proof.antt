@@ -1,15 +1,15 @@
 use Rattle.rtcp.proofs.Laws.Answers.{count-passed}
 use Rattle.rtcp.proofs.Theorems.{count-bound}
-use Rattle.rows.proofs.Laws.{rows-refused, rows-short, rows-filled}
+use Rattle.rtcp.proofs.Laws.Rows.{rows-refused, rows-short, rows-filled}
 use mathlib.Core.Path.{_≡_, refl, sym, ap, _∙_}
 use native.Mathlib.Omega.{arith}
 use borrow.Author.Needs.{needs}
-use Rattle.rows.proofs.read_rows.Statement.{statement}
-use Rattle.rows.proofs.read_rows.Tie as tie
-use Rattle.rows.proofs.read_rows.Reads as reads
-use Rattle.rows.proofs.read_rows.Lts as lts
-use Rattle.rows.proofs.fill_rows.Reads as fill-rows-reads
-use Rattle.rtcp.proofs.count_items.Reads as count-items-reads
+use Rattle.rtcp.proofs.rows.read_rows.Statement.{statement}
+use Rattle.rtcp.proofs.rows.read_rows.Tie as tie
+use Rattle.rtcp.proofs.rows.read_rows.Reads as reads
+use Rattle.rtcp.proofs.rows.read_rows.Lts as lts
+use Rattle.rtcp.proofs.rows.fill_rows.Reads as fill-rows-reads
+use Rattle.rtcp.proofs.walk.count_items.Reads as count-items-reads
 
 -- src/lib.rt:64:11
 count-items-requires : tie.Need-count-items-requires

@@ -1,0 +1,168 @@
+-- Laws of rows: what an array holds once rows have been put into it one behind the other.
+use Prim.Native.Nat.{ℕ, _+_, _*_, _≤_, _<_}
+use mathlib.Core.Path.{_≡_, refl, sym, ap, _∙_}
+use mathlib.Core.List.{List, [], _∷_, _++_, append-assoc}
+use mathlib.Core.Bool.{Bool, true, false}
+use lib.ListN.{length, take, drop, length-append}
+use lib.Seq.{paste, paste-zero, take-paste, drop-paste, length-paste, drop-drop, take-all}
+use native.Mathlib.Omega.{arith}
+use lib.Dec.{ltb}
+use borrow.Author.Tests.{lt-ltb, le-ltb, ltb-true, ltb-false}
+use Rattle.idms.specs.Rows.{cells, rowOf}
+use Rattle.idms.specs.declared.Item.{Item}
+use Rattle.idms.specs.declared.Placed.{Placed}
+use Rattle.idms.specs.declared.Refusal.{Refusal}
+use Rattle.rtcp.specs.declared.walk.Count.{Count}
+use Rattle.rtcp.specs.Refusals.{Check, passed, refused}
+use Rattle.rtcp.specs.Datagram.{packetsItems, datagramCheck, datagramItems}
+use Rattle.rtcp.specs.Answers.{refusal, countOf}
+use Rattle.rtcp.proofs.Laws.Datagram.{packets-end}
+use Rattle.rtcp.proofs.Laws.Answers.{count-passed, count-refused}
+use Rattle.rtcp.specs.Rows.{rowsOf, put, rowsAnswer, rowsAfter}
+
+-- ---- rowOf
+
+pub length-rowOf : (x : Placed) → length (rowOf x) ≡ 10
+length-rowOf x = go (x .place) (x .item)
+  where
+    go : (place : ℕ) (item : Item) → length (cells place item) ≡ 10
+    go place (Item.Report r) = refl
+    go place (Item.Settings s) = refl
+    go place (Item.Farewell source) = refl
+
+pub nothing-left : (l : List Placed) → length l ≤ 0 → l ≡ []
+nothing-left [] h = refl
+nothing-left (x ∷ l) h = absurd (omega arith)
+
+-- ---- put
+
+-- a row changes no length
+pub length-put-row : (rows : List ℕ) (at : ℕ) (x : Placed) → at + 10 ≤ length rows → length (paste rows at (rowOf x) 10) ≡ length rows
+length-put-row rows at x h = length-paste rows at (rowOf x) 10 h (omega (arith, length-rowOf x))
+
+pub put-rows :
+    (l : List Placed) (rows : List ℕ) (at : ℕ) → at + 10 * length l ≤ length rows
+    → put rows at l ≡ take at rows ++ rowsOf l ++ drop (at + 10 * length l) rows
+put-rows [] rows at h = paste-zero rows at []
+put-rows (x ∷ l) rows at h =
+    let long : length (paste rows at (rowOf x) 10) ≡ length rows = length-put-row rows at x (omega arith) in
+    let ten : 10 ≤ length (rowOf x) = omega (arith, length-rowOf x) in
+    let front : take (at + 10) (paste rows at (rowOf x) 10) ≡ take at rows ++ rowOf x =
+        take-paste rows at (rowOf x) 10 (omega arith) ten ∙ ap (λ (r : List ℕ). take at rows ++ r) (take-all 10 (rowOf x) (omega (arith, length-rowOf x))) in
+    let back : drop (at + 10 + 10 * length l) (paste rows at (rowOf x) 10) ≡ drop (at + 10 * length (x ∷ l)) rows =
+        sym (drop-drop (10 * length l) (at + 10) (paste rows at (rowOf x) 10))
+        ∙ ap (drop (10 * length l)) (drop-paste rows at (rowOf x) 10 (omega arith) ten)
+        ∙ drop-drop (10 * length l) (at + 10) rows
+        ∙ ap (λ (k : ℕ). drop k rows) (same (length l)) in
+    put-rows l (paste rows at (rowOf x) 10) (at + 10) (omega (arith, long))
+    ∙ ap (λ (r : List ℕ). r ++ rowsOf l ++ drop (at + 10 + 10 * length l) (paste rows at (rowOf x) 10)) front
+    ∙ ap (λ (r : List ℕ). take at rows ++ rowOf x ++ rowsOf l ++ r) back
+    ∙ ap (λ (r : List ℕ). r ++ drop (at + 10 * length (x ∷ l)) rows) (append-assoc (take at rows) (rowOf x) (rowsOf l))
+  where
+    same : (n : ℕ) → at + 10 + 10 * n ≡ at + 10 * Prim.Native.Nat.suc n
+    same n = omega arith
+
+-- from the first cell on, nothing stands before the rows
+pub put-front : (l : List Placed) (rows : List ℕ) → 10 * length l ≤ length rows → put rows 0 l ≡ rowsOf l ++ drop (10 * length l) rows
+put-front l rows h =
+    let all : 0 + 10 * length l ≡ 10 * length l = omega arith in
+    put-rows l rows 0 (omega arith) ∙ ap (λ (k : ℕ). rowsOf l ++ drop k rows) all
+
+pub length-put : (l : List Placed) (rows : List ℕ) (at : ℕ) → at + 10 * length l ≤ length rows → length (put rows at l) ≡ length rows
+length-put [] rows at h = refl
+length-put (x ∷ l) rows at h =
+    let one : _ = length-put-row rows at x (omega arith) in
+    length-put l (paste rows at (rowOf x) 10) (at + 10) (omega (arith, one)) ∙ one
+
+pub put-append :
+    (l m : List Placed) (rows : List ℕ) (at : ℕ) → put rows at (l ++ m) ≡ put (put rows at l) (at + 10 * length l) m
+put-append [] m rows at = let none : at ≡ at + 10 * 0 = omega arith in ap (λ (k : ℕ). put rows k m) none
+put-append (x ∷ l) m rows at =
+    put-append l m (paste rows at (rowOf x) 10) (at + 10) ∙ ap (λ (k : ℕ). put (put (paste rows at (rowOf x) 10) (at + 10) l) k m) (same (length l))
+  where
+    same : (n : ℕ) → at + 10 + 10 * n ≡ at + 10 * Prim.Native.Nat.suc n
+    same n = omega arith
+
+-- ---- Filling: what a loop that puts rows keeps. `items₀` were to be put from the cell `at` on; `items` are left to put
+-- from `cell` on.
+
+pub record Filling (rows₀ : List ℕ) (at : ℕ) (items₀ : List Placed) (rows : List ℕ) (cell : ℕ) (items : List Placed) : Type 0 where
+  pub long : length rows ≡ length rows₀
+  pub cells : cell + 10 * length items ≡ at + 10 * length items₀
+  pub all : put rows cell items ≡ put rows₀ at items₀
+
+pub filling-start : (rows : List ℕ) (at : ℕ) (items : List Placed) → Filling rows at items rows at items
+filling-start rows at items = record { long = refl; cells = refl; all = refl }
+
+module _ {rows₀ : List ℕ} {at : ℕ} {items₀ : List Placed} {rows : List ℕ} {cell : ℕ} {items : List Placed} (f : Filling rows₀ at items₀ rows cell items) where
+  -- some of them have been put
+  pub filling-part :
+      (l rest : List Placed) (rows′ : List ℕ) (cell′ : ℕ) → items ≡ l ++ rest → at + 10 * length items₀ ≤ length rows₀
+      → rows′ ≡ put rows cell l → cell′ ≡ cell + 10 * length l → Filling rows₀ at items₀ rows′ cell′ rest
+  filling-part l rest rows′ cell′ e h r k =
+      let n : length items ≡ length l + length rest = ap length e ∙ length-append l rest in
+      record {
+        long = ap length r ∙ length-put l rows cell (omega (arith, f .long, f .cells)) ∙ f .long;
+        cells = omega (arith, f .cells);
+        all =
+          ap (λ (x : List ℕ). put x cell′ rest) r
+          ∙ ap (λ (x : ℕ). put (put rows cell l) x rest) k
+          ∙ sym (put-append l rest rows cell)
+          ∙ ap (put rows cell) (sym e)
+          ∙ f .all
+      }
+
+  -- one of them has been put
+  pub filling-row :
+      (x : Placed) (rest : List Placed) (rows′ : List ℕ) → items ≡ x ∷ rest → at + 10 * length items₀ ≤ length rows₀
+      → rows′ ≡ paste rows cell (rowOf x) 10 → Filling rows₀ at items₀ rows′ (cell + 10) rest
+  filling-row x rest rows′ e h r = filling-part (x ∷ []) rest rows′ (cell + 10) e h r (omega arith)
+
+  -- there is room for the next
+  pub filling-room :
+      (x : Placed) (rest : List Placed) → items ≡ x ∷ rest → at + 10 * length items₀ ≤ length rows₀ → cell + 10 ≤ length rows
+  filling-room x rest e h = omega (arith, ap length e, f .long, f .cells)
+
+  pub filling-end : items ≡ [] → (cell ≡ at + 10 * length items₀) × (rows ≡ put rows₀ at items₀)
+  filling-end e = (omega (arith, ap length e, f .cells), sym (ap (put rows cell) e) ∙ f .all)
+
+-- while rows are missing, packets are left
+pub packets-left :
+    (d rows₀ rows : List ℕ) (cell p n : ℕ) → Filling rows₀ 0 (datagramItems d) rows cell (packetsItems d p)
+    → n ≡ length (datagramItems d) → cell < 10 * n → p < length d
+packets-left d rows₀ rows cell p n f e h = go (ltb p (length d)) refl
+  where
+    go : (t : Bool) → ltb p (length d) ≡ t → p < length d
+    go true t = ltb-true p (length d) t
+    go false t =
+        let ended : _ = filling-end f (packets-end d p (ltb-false p (length d) t)) in
+        absurd (omega (arith, ended .0))
+
+-- once all rows are there, no item is left
+pub none-left :
+    (d rows₀ rows : List ℕ) (cell p n : ℕ) → Filling rows₀ 0 (datagramItems d) rows cell (packetsItems d p)
+    → n ≡ length (datagramItems d) → 10 * n ≤ cell → packetsItems d p ≡ []
+none-left d rows₀ rows cell p n f e h = nothing-left (packetsItems d p) (omega (arith, f .cells))
+
+-- ---- the answer and the array, by what was checked
+
+module _ (d rows : List ℕ) where
+  pub rows-refused : (r : Refusal) → countOf d ≡ Count.Refused r → (Count.Refused r ≡ rowsAnswer d rows) × (rows ≡ rowsAfter d rows)
+  unfolding rowsAnswer rowsAfter
+  rows-refused r e = rw (count-refused d r e) (refl, refl)
+
+  module _ (n : ℕ) (e : countOf d ≡ Count.Items n) where
+    pub rows-short : length rows < 10 * n → (Count.Refused (refusal 10 0) ≡ rowsAnswer d rows) × (rows ≡ rowsAfter d rows)
+    unfolding rowsAnswer rowsAfter
+    rows-short h =
+        let m : _ = count-passed d n e in
+        rw (m .0, lt-ltb (length rows) (10 * length (datagramItems d)) (omega (arith, m .1))) (refl, refl)
+
+    pub rows-filled :
+        10 * n ≤ length rows
+        → (Count.Items n ≡ rowsAnswer d rows) × (put rows 0 (datagramItems d) ≡ rowsAfter d rows)
+    unfolding rowsAnswer rowsAfter
+    rows-filled h =
+        let m : _ = count-passed d n e in
+        rw (m .0, le-ltb (length rows) (10 * length (datagramItems d)) (omega (arith, m .1)))
+        (ap Count.Items (m .1), put-front (datagramItems d) rows (omega (arith, m .1)))
