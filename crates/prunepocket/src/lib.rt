@@ -40,9 +40,7 @@ fn refuse(r: Refusal) -> Answer
 // How many items a datagram has.
 #[no_mangle]
 pub extern "C" fn prunepocket_count_items(datagram: &[u8], count: &mut u64) -> Answer
-    ensures {
-        λ r. ⌜ (r ≡ counting (countOf (now (datagram .entry)))) × (now (count .exit) ≡ counted (countOf (now (datagram .entry))) (now (count .entry))) ⌝
-    }
+    ensures { λ r. ⌜ (r ≡ counting (countOf (now (datagram .entry)))) × (now (count .exit) ≡ counted (countOf (now (datagram .entry))) (now (count .entry))) ⌝ }
 {
     match rtcp::count_items(datagram) {
         Count::Refused(r) => refuse(r),
@@ -61,9 +59,7 @@ pub extern "C" fn prunepocket_item_field(
     field: u64,
     value: &mut u64,
 ) -> Answer
-    ensures {
-        λ r. ⌜ (r ≡ reading (itemOf (now (datagram .entry)) index) field) × (now (value .exit) ≡ read (itemOf (now (datagram .entry)) index) field (now (value .entry))) ⌝
-    }
+    ensures { λ r. ⌜ (r ≡ reading (itemOf (now (datagram .entry)) index) field) × (now (value .exit) ≡ read (itemOf (now (datagram .entry)) index) field (now (value .entry))) ⌝ }
 {
     match rtcp::item_at(datagram, index as usize) {
         Found::Refused(r) => refuse(r),
@@ -87,9 +83,7 @@ pub extern "C" fn prunepocket_read_items(
     rows: &mut [u64],
     count: &mut u64,
 ) -> Answer
-    ensures {
-        λ r. ⌜ (r ≡ counting (rowsAnswer (now (datagram .entry)) (now (rows .entry)))) × (now (rows .exit) ≡ rowsAfter (now (datagram .entry)) (now (rows .entry))) × (now (count .exit) ≡ counted (rowsAnswer (now (datagram .entry)) (now (rows .entry))) (now (count .entry))) ⌝
-    }
+    ensures { λ r. ⌜ (r ≡ counting (rowsAnswer (now (datagram .entry)) (now (rows .entry)))) × (now (rows .exit) ≡ rowsAfter (now (datagram .entry)) (now (rows .entry))) × (now (count .exit) ≡ counted (rowsAnswer (now (datagram .entry)) (now (rows .entry))) (now (count .entry))) ⌝ }
 {
     match rtcp::read_rows(datagram, rows) {
         Count::Refused(r) => refuse(r),

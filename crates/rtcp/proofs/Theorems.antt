@@ -116,6 +116,7 @@ refused-everywhere d n p = (there, back (datagramCheck d) refl)
     there e =
         let k : datagramCheck d ≡ refused n p = count-refused d (refusal n p) e in
         ((λ index. item-refused d index n p k), λ nine. omega (arith, datagram-numbered d n p k))
+
     back :
         (k : Check) → datagramCheck d ≡ k
         → ((index : ℕ) → itemOf d index ≡ Found.Refused (refusal n p)) × (n ≡ 9 → ⊥)
@@ -133,11 +134,13 @@ nine-past-the-count d n index e = (there (ltb index n) refl, back)
   where
     known : (datagramCheck d ≡ passed) × (n ≡ length (datagramItems d))
     known = count-passed d n e
+
     there : (t : Bool) → ltb index n ≡ t → itemOf d index ≡ Found.Refused (refusal 9 0) → n ≤ index
     there true t h =
         let found : _ = item-there d index (known .0) (omega (arith, ltb-true index n t, known .1)) in
         absurd (omega (arith, ap numberOf (sym found ∙ h)))
     there false t h = ltb-false index n t
+
     back : n ≤ index → itemOf d index ≡ Found.Refused (refusal 9 0)
     back h = item-past d index (known .0) (omega (arith, known .1))
 

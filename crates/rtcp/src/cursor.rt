@@ -142,8 +142,9 @@ fn at_block(d: &[u8], sender: u32, at: usize, stop: usize, next: usize) -> Advan
     }
     match block_at(d, at, stop) {
         Block::Refused(_) => Advance::End,
-        Block::Whole(bytes, items) => {
-            let behind = Cursor::Blocks(sender, at + bytes, stop, next);
+        Block::Other(bytes) => Advance::Onward(Cursor::Blocks(sender, at + bytes, stop, next)),
+        Block::Idms(items) => {
+            let behind = Cursor::Blocks(sender, at + 32, stop, next);
             if items == 0 {
                 return Advance::Onward(behind);
             }

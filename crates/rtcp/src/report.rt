@@ -4,7 +4,7 @@ use crate::bytes::read32;
 use crate::bytes::read64;
 use idms::Report;
 ghost use mathlib.Core.Path.{_≡_};
-ghost use mathlib.Core.Bool.{cond, not, _&&_};
+ghost use mathlib.Core.Bool.{cond, _&&_};
 ghost use Prim.Native.Nat.{_+_, _≤_};
 ghost use lib.ListN.{length};
 ghost use lib.Dec.{eqb};
@@ -15,48 +15,36 @@ const BLOCK_PAST_END: u64 = 6;
 
 const BAD_BLOCK_LENGTH: u64 = 7;
 
-// What is found at a block: how many bytes it takes and how many items it gives, or the number of its refusal.
+// What is found at a block: one of type 12, whose 32 bytes check 7 has seen to, with how many items it gives; another
+// type of as many bytes; or the number of a refusal.
 pub(crate) enum Block {
-    Whole(usize, usize),
+    Idms(usize),
+    Other(usize),
     Refused(u64),
 }
 
-// Whether a block of type 12 reports: role 1 does, and 0 and 2 to 15 do not.
-fn is_reporting(role: u8) -> bool
-    ensures { λ r. ⌜ r ≡ eqb role 1 ⌝ }
+// How many items a block of type 12 gives: one with role 1, none with role 0 or 2 to 15.
+fn items_of(role: u8) -> usize
+    ensures { λ r. ⌜ r ≡ cond (eqb role 1) 1 0 ⌝ }
 {
     match role {
-        1 => true,
-        0 | 2..=255 => false,
+        1 => 1,
+        0 | 2..=255 => 0,
     }
 }
 
-// How many items a block gives, by its type and, for type 12, its role.
-pub(crate) fn items_of(kind: u8, role: u8) -> usize
-    ensures { λ r. ⌜ r ≡ cond (eqb kind 12 && eqb role 1) 1 0 ⌝ }
+// Check 7 at a block of type 12, whatever its role.
+fn idms_block(words: usize, role: u8) -> Block
+    ensures { λ r. ⌜ r ≡ cond (eqb words 7) (Block.Idms (cond (eqb role 1) 1 0)) (Block.Refused 7) ⌝ }
 {
-    match kind {
-        12 => {
-            if is_reporting(role) {
-                return 1;
-            }
-            0
-        }
-        0..=11 | 13..=255 => 0,
+    if words != 7 {
+        return Block::Refused(BAD_BLOCK_LENGTH);
     }
+    Block::Idms(items_of(role))
 }
 
-// Check 7: a block of type 12 has 8 words, whatever its role.
-fn is_bad_length(kind: u8, words: usize) -> bool
-    ensures { λ r. ⌜ r ≡ (eqb kind 12 && not (eqb words 7)) ⌝ }
-{
-    match kind {
-        12 => words != 7,
-        0..=11 | 13..=255 => false,
-    }
-}
-
-// Checks 6 and 7 at a block, then its size and how many items it gives.
+// Checks 6 and 7 at a block, by its type. The two cases stay apart: where every block of type 12 is one branch, the next
+// place does not wait for the length that was read.
 pub(crate) fn block_at(d: &[u8], at: usize, stop: usize) -> Block
     requires { ⌜ (at + 4 ≤ stop) × (stop ≤ length (now d)) ⌝ }
     ensures { λ r. ⌜ r ≡ blockIs (now (d .entry)) stop at ⌝ }
@@ -67,10 +55,20 @@ pub(crate) fn block_at(d: &[u8], at: usize, stop: usize) -> Block
         return Block::Refused(BLOCK_PAST_END);
     }
     let kind = d[at];
-    if is_bad_length(kind, words) {
-        return Block::Refused(BAD_BLOCK_LENGTH);
+    match kind {
+        12 => idms_block(words, d[at + 1] / 16),
+        0..=11 | 13..=255 => Block::Other(bytes),
     }
-    Block::Whole(bytes, items_of(kind, d[at + 1] / 16))
+}
+
+// Whether a block is a report, by its type and, for type 12, its role.
+pub(crate) fn is_report(kind: u8, role: u8) -> bool
+    ensures { λ r. ⌜ r ≡ (eqb kind 12 && eqb role 1) ⌝ }
+{
+    match kind {
+        12 => items_of(role) == 1,
+        0..=11 | 13..=255 => false,
+    }
 }
 
 // The presented time, which is not looked at where P is 0.

@@ -4,7 +4,7 @@ use crate::bytes::read16;
 use crate::bytes::read32;
 use crate::packet::known_head;
 use crate::packet::packet_size;
-use crate::report::items_of;
+use crate::report::is_report;
 use crate::report::report_at;
 use crate::settings::settings_at;
 use crate::walk::Count;
@@ -39,12 +39,8 @@ fn put_row(rows: &mut [u64], at: usize, x: Placed)
 
 // Puts a row for each source from a place up to a stop, and answers the cell behind them.
 fn fill_sources(d: &[u8], rows: &mut [u64], at: usize, from: usize, stop: usize) -> usize
-    requires {
-        ⌜ (stop ≤ length (now d)) × ((stop - from) % 4 ≡ 0) × (at + 10 * length (sourceItems (now d) stop from) ≤ length (now rows)) ⌝
-    }
-    ensures {
-        λ r. ⌜ (r ≡ at + 10 * length (sourceItems (now (d .entry)) stop from)) × (now (rows .exit) ≡ put (now (rows .entry)) at (sourceItems (now (d .entry)) stop from)) ⌝
-    }
+    requires { ⌜ (stop ≤ length (now d)) × ((stop - from) % 4 ≡ 0) × (at + 10 * length (sourceItems (now d) stop from) ≤ length (now rows)) ⌝ }
+    ensures { λ r. ⌜ (r ≡ at + 10 * length (sourceItems (now (d .entry)) stop from)) × (now (rows .exit) ≡ put (now (rows .entry)) at (sourceItems (now (d .entry)) stop from)) ⌝ }
 {
     let mut k = from;
     let mut cell = at;
@@ -65,12 +61,8 @@ fn fill_sources(d: &[u8], rows: &mut [u64], at: usize, from: usize, stop: usize)
 
 // Puts a row for each report of the XR packet at p, whose blocks have passed, and answers the cell behind them.
 fn fill_blocks(d: &[u8], rows: &mut [u64], at: usize, p: usize, content: usize) -> usize
-    requires {
-        ⌜ (8 ≤ content) × (content % 4 ≡ 0) × (p + content ≤ length (now d)) × (blocksCheck (now d) (p + content) (p + 8) ≡ passed) × (at + 10 * length (blocksItems (now d) (be32 (now d) (p + 4)) (p + content) (p + 8)) ≤ length (now rows)) ⌝
-    }
-    ensures {
-        λ r. ⌜ (r ≡ at + 10 * length (blocksItems (now (d .entry)) (be32 (now (d .entry)) (p + 4)) (p + content) (p + 8))) × (now (rows .exit) ≡ put (now (rows .entry)) at (blocksItems (now (d .entry)) (be32 (now (d .entry)) (p + 4)) (p + content) (p + 8))) ⌝
-    }
+    requires { ⌜ (8 ≤ content) × (content % 4 ≡ 0) × (p + content ≤ length (now d)) × (blocksCheck (now d) (p + content) (p + 8) ≡ passed) × (at + 10 * length (blocksItems (now d) (be32 (now d) (p + 4)) (p + content) (p + 8)) ≤ length (now rows)) ⌝ }
+    ensures { λ r. ⌜ (r ≡ at + 10 * length (blocksItems (now (d .entry)) (be32 (now (d .entry)) (p + 4)) (p + content) (p + 8))) × (now (rows .exit) ≡ put (now (rows .entry)) at (blocksItems (now (d .entry)) (be32 (now (d .entry)) (p + 4)) (p + content) (p + 8))) ⌝ }
 {
     let sender = read32(d, p + 4);
     let stop = p + content;
@@ -78,8 +70,7 @@ fn fill_blocks(d: &[u8], rows: &mut [u64], at: usize, p: usize, content: usize) 
     let mut cell = at;
     while k < stop {
         let here = k;
-        k += 4 * (read16(d, here + 2) + 1);
-        if items_of(d[here], d[here + 1] / 16) == 1 {
+        if is_report(d[here], d[here + 1] / 16) {
             put_row(
                 rows,
                 cell,
@@ -89,6 +80,9 @@ fn fill_blocks(d: &[u8], rows: &mut [u64], at: usize, p: usize, content: usize) 
                 },
             );
             cell += 10;
+            k = here + 32;
+        } else {
+            k = here + 4 * (read16(d, here + 2) + 1);
         }
     }
     cell
@@ -96,12 +90,8 @@ fn fill_blocks(d: &[u8], rows: &mut [u64], at: usize, p: usize, content: usize) 
 
 // Puts the rows of the packet at p, which has passed, and answers the cell behind them.
 fn fill_packet(d: &[u8], rows: &mut [u64], at: usize, p: usize) -> usize
-    requires {
-        ⌜ (p + 4 ≤ length (now d)) × (packetCheck (now d) p ≡ passed) × (at + 10 * length (packetItems (now d) p) ≤ length (now rows)) ⌝
-    }
-    ensures {
-        λ r. ⌜ (r ≡ at + 10 * length (packetItems (now (d .entry)) p)) × (now (rows .exit) ≡ put (now (rows .entry)) at (packetItems (now (d .entry)) p)) ⌝
-    }
+    requires { ⌜ (p + 4 ≤ length (now d)) × (packetCheck (now d) p ≡ passed) × (at + 10 * length (packetItems (now d) p) ≤ length (now rows)) ⌝ }
+    ensures { λ r. ⌜ (r ≡ at + 10 * length (packetItems (now (d .entry)) p)) × (now (rows .exit) ≡ put (now (rows .entry)) at (packetItems (now (d .entry)) p)) ⌝ }
 {
     let h = known_head(d, p, packet_size(d, p));
     let kind = h.kind;
@@ -125,9 +115,7 @@ fn fill_packet(d: &[u8], rows: &mut [u64], at: usize, p: usize) -> usize
 
 // Puts the rows of a datagram's n items at the front. It stops behind the last of them.
 fn fill_rows(d: &[u8], rows: &mut [u64], n: usize)
-    requires {
-        ⌜ (datagramCheck (now d) ≡ passed) × (n ≡ length (datagramItems (now d))) × (10 * n ≤ length (now rows)) ⌝
-    }
+    requires { ⌜ (datagramCheck (now d) ≡ passed) × (n ≡ length (datagramItems (now d))) × (10 * n ≤ length (now rows)) ⌝ }
     ensures { λ _. ⌜ now (rows .exit) ≡ put (now (rows .entry)) 0 (datagramItems (now (d .entry))) ⌝ }
 {
     let end = 10 * n;
@@ -141,9 +129,7 @@ fn fill_rows(d: &[u8], rows: &mut [u64], n: usize)
 
 // Checks first and fills then: after any refusal, or where the array is too short, it is as before.
 pub fn read_rows(d: &[u8], rows: &mut [u64]) -> Count
-    ensures {
-        λ r. ⌜ (r ≡ rowsAnswer (now (d .entry)) (now (rows .entry))) × (now (rows .exit) ≡ rowsAfter (now (d .entry)) (now (rows .entry))) ⌝
-    }
+    ensures { λ r. ⌜ (r ≡ rowsAnswer (now (d .entry)) (now (rows .entry))) × (now (rows .exit) ≡ rowsAfter (now (d .entry)) (now (rows .entry))) ⌝ }
 {
     match count_items(d) {
         Count::Refused(r) => Count::Refused(r),

@@ -47,8 +47,11 @@ fn count_blocks(d: &[u8], p: usize, content: usize) -> Count
             Block::Refused(number) => {
                 return Count::Refused(Refusal { number, place: at });
             }
-            Block::Whole(bytes, items) => {
+            Block::Idms(items) => {
                 n += items;
+                at += 32;
+            }
+            Block::Other(bytes) => {
                 at += bytes;
             }
         }

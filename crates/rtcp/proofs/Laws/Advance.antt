@@ -36,7 +36,7 @@ readable-packet d p h =
     record {
       fits = leb-true (p + size d p) (length d) (and-left fits enough h);
       inside = content-inside d p;
-      enough = not-true (contentIsShort (packetType d p) (count d p) (content d p)) (and-right fits enough h)
+      enough = not-true (contentIsShort (packetType d p) (count d p) (content d p)) (and-right fits enough h);
     }
 
 -- ---- at a packet

@@ -37,6 +37,7 @@ entered-falls d p h e = go (apart (packetType d p))
   where
     known : Readable d p
     known = readable-packet d p e
+
     go : Apart (packetType d p) → Falls d (Cursor.Packet p) (entered d p)
     go (bye t) =
         rw (entered-bye d p t)
@@ -172,12 +173,13 @@ module _ (d : List ℕ) (p : ℕ) (h : p < length d) (w : (length d - p) % 4 ≡
       go (xr t) =
           rw (entered-xr d p t)
           (went (Cursor.Blocks (be32 d (p + 4)) (p + 8) (p + content d p) (p + size d p))
-          (items-as (items-xr d p t))
-          (omega (arith, turn .known .fits, turn .known .inside),
+          (items-as (items-xr d p t)) (
+            omega (arith, turn .known .fits, turn .known .inside),
             omega (arith, turn .known .words, least-xr _ _ _ (turn .known .enough) t),
             behind .0,
             behind .1,
-            sym (check-xr d p (turn .head) t) ∙ turn .check))
+            sym (check-xr d p (turn .head) t) ∙ turn .check,
+          ))
       go (settings t) = rw (entered-settings d p t) (gave _ (past d p) (items-as (items-settings d p t)) behind)
       go (unread a b c) = rw (entered-unread d p a b c) (went (past d p) (items-as (items-unread d p a b c)) behind)
 

@@ -51,13 +51,13 @@ pub blocks-turn :
     (d : List ℕ) (sender stop at : ℕ) → at < stop → blocksCheck d stop at ≡ passed → BlocksTurn d sender stop at
 blocks-turn d sender stop at h e =
     let both : _ =
-        both-pass (blockCheck d stop at) (blocksCheck d stop (at + blockSize d at))
-        (sym (checks-part (blockCheck d stop) (blockItems d sender) (blockSize d) stop (λ k. omega arith) at h) ∙ e) in
+    both-pass (blockCheck d stop at) (blocksCheck d stop (at + blockSize d at))
+    (sym (checks-part (blockCheck d stop) (blockItems d sender) (blockSize d) stop (λ k. omega arith) at h) ∙ e) in
     record {
       check = both .0;
       inside = block-inside d stop at (both .0);
       later = both .1;
-      items = gives-part (blockCheck d stop) (blockItems d sender) (blockSize d) stop (λ k. omega arith) at h
+      items = gives-part (blockCheck d stop) (blockItems d sender) (blockSize d) stop (λ k. omega arith) at h;
     }
 
 pub blocks-end : (d : List ℕ) (sender stop at : ℕ) → stop ≤ at → blocksItems d sender stop at ≡ []
@@ -192,14 +192,14 @@ pub record PacketsTurn (d : List ℕ) (p : ℕ) : Type 0 where
 pub packets-turn : (d : List ℕ) (p : ℕ) → p < length d → packetsCheck d p ≡ passed → PacketsTurn d p
 packets-turn d p h e =
     let both : _ =
-        both-pass (packetCheck d p) (packetsCheck d (p + size d p))
-        (sym (checks-part (packetCheck d) (packetItems d) (size d) (length d) (λ k. omega arith) p h) ∙ e) in
+    both-pass (packetCheck d p) (packetsCheck d (p + size d p))
+    (sym (checks-part (packetCheck d) (packetItems d) (size d) (length d) (λ k. omega arith) p h) ∙ e) in
     record {
       check = both .0;
       head = head-of-packet d p (both .0);
       known = head-passed d p (head-of-packet d p (both .0));
       later = both .1;
-      items = gives-part (packetCheck d) (packetItems d) (size d) (length d) (λ k. omega arith) p h
+      items = gives-part (packetCheck d) (packetItems d) (size d) (length d) (λ k. omega arith) p h;
     }
 
 pub packets-end : (d : List ℕ) (p : ℕ) → length d ≤ p → packetsItems d p ≡ []

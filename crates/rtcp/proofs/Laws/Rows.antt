@@ -48,12 +48,12 @@ put-rows (x ∷ l) rows at h =
     let long : length (paste rows at (rowOf x) 10) ≡ length rows = length-put-row rows at x (omega arith) in
     let ten : 10 ≤ length (rowOf x) = omega (arith, length-rowOf x) in
     let front : take (at + 10) (paste rows at (rowOf x) 10) ≡ take at rows ++ rowOf x =
-        take-paste rows at (rowOf x) 10 (omega arith) ten ∙ ap (λ (r : List ℕ). take at rows ++ r) (take-all 10 (rowOf x) (omega (arith, length-rowOf x))) in
+    take-paste rows at (rowOf x) 10 (omega arith) ten ∙ ap (λ (r : List ℕ). take at rows ++ r) (take-all 10 (rowOf x) (omega (arith, length-rowOf x))) in
     let back : drop (at + 10 + 10 * length l) (paste rows at (rowOf x) 10) ≡ drop (at + 10 * length (x ∷ l)) rows =
-        sym (drop-drop (10 * length l) (at + 10) (paste rows at (rowOf x) 10))
-        ∙ ap (drop (10 * length l)) (drop-paste rows at (rowOf x) 10 (omega arith) ten)
-        ∙ drop-drop (10 * length l) (at + 10) rows
-        ∙ ap (λ (k : ℕ). drop k rows) (same (length l)) in
+    sym (drop-drop (10 * length l) (at + 10) (paste rows at (rowOf x) 10))
+    ∙ ap (drop (10 * length l)) (drop-paste rows at (rowOf x) 10 (omega arith) ten)
+    ∙ drop-drop (10 * length l) (at + 10) rows
+    ∙ ap (λ (k : ℕ). drop k rows) (same (length l)) in
     put-rows l (paste rows at (rowOf x) 10) (at + 10) (omega (arith, long))
     ∙ ap (λ (r : List ℕ). r ++ rowsOf l ++ drop (at + 10 + 10 * length l) (paste rows at (rowOf x) 10)) front
     ∙ ap (λ (r : List ℕ). take at rows ++ rowOf x ++ rowsOf l ++ r) back
@@ -105,11 +105,11 @@ module _ {rows₀ : List ℕ} {at : ℕ} {items₀ : List Placed} {rows : List �
         long = ap length r ∙ length-put l rows cell (omega (arith, f .long, f .cells)) ∙ f .long;
         cells = omega (arith, f .cells);
         all =
-          ap (λ (x : List ℕ). put x cell′ rest) r
-          ∙ ap (λ (x : ℕ). put (put rows cell l) x rest) k
-          ∙ sym (put-append l rest rows cell)
-          ∙ ap (put rows cell) (sym e)
-          ∙ f .all
+            ap (λ (x : List ℕ). put x cell′ rest) r
+            ∙ ap (λ (x : ℕ). put (put rows cell l) x rest) k
+            ∙ sym (put-append l rest rows cell)
+            ∙ ap (put rows cell) (sym e)
+            ∙ f .all;
       }
 
   -- one of them has been put
