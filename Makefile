@@ -1,0 +1,31 @@
+# make test     every check, as .ci/run does
+# make run      shows the items of the sample datagram
+# make archive  target/staticlib/libprunepocket.a, for C or Rust to link
+# make ctest    the C test
+# make rtest    the Rust tests
+# make bench    times the archive beside a Rust decoder
+# make clean    removes all that was built
+
+.PHONY: test run archive ctest rtest bench clean
+
+test:
+	@tools/test
+
+run:
+	rt check show_datagram
+	target/bin/show_datagram < crates/show_datagram/stdin
+
+archive:
+	tools/archive
+
+ctest: archive
+	tools/test-c
+
+rtest: archive
+	tools/test-rust
+
+bench: archive
+	cd bench && CARGO_TARGET_DIR="$$PWD/../target/cargo" cargo run --release --offline
+
+clean:
+	rm -rf target tests/target bench/target
