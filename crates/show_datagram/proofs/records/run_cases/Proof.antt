@@ -2,8 +2,8 @@
 use Prim.Native.Nat.{_-_}
 use lib.ListN.{length}
 use borrow.Author.Needs.{needs}
-use Rattle.reader_cases.proofs.run_cases.Statement.{statement}
-use Rattle.reader_cases.proofs.run_cases.Tie as tie
+use Rattle.show_datagram.proofs.records.run_cases.Statement.{statement}
+use Rattle.show_datagram.proofs.records.run_cases.Tie as tie
 
 abbrev Inv-loop : tie.InvT-loop
 Inv-loop s at₀ at = Unit

@@ -1,8 +1,8 @@
 -- The walk from a cursor ends: the turns that are left, of 512, are the measure, and no fact is carried from turn to turn.
 use Prim.Native.Nat.{_-_}
 use borrow.Author.Needs.{needs}
-use Rattle.print_items.proofs.print_from.Statement.{statement}
-use Rattle.print_items.proofs.print_from.Tie as tie
+use Rattle.show_datagram.proofs.print.print_from.Statement.{statement}
+use Rattle.show_datagram.proofs.print.print_from.Tie as tie
 
 abbrev Inv-loop : tie.InvT-loop
 Inv-loop d c₀ counter₀ c counter = Unit

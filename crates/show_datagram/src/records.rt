@@ -1,4 +1,5 @@
-// Runs the cases of tests/cases.txt that standard input holds as records, and prints each with what the reader answers.
+// Runs the cases of tests/cases.txt, which tools/check-cases makes into records, and prints each with what the reader
+// answers.
 //
 // A record, its numbers big-endian:
 //   1 byte    the length of the case's name
@@ -7,7 +8,8 @@
 //   8 bytes   the index, or 0
 //   2 bytes   the length of the datagram
 //             the datagram
-use libc::STDIN_FILENO;
+use crate::print::print_datagram;
+use crate::print::print_found;
 use libc::STDOUT_FILENO;
 ghost use Prim.Native.Nat.{_≤_, _<_};
 ghost use lib.ListN.{length};
@@ -44,7 +46,7 @@ fn print_indexed(d: &[u8], index: u64) {
     io::write_all(STDOUT_FILENO, b"index ");
     io::print_decimal(STDOUT_FILENO, index);
     io::write_all(STDOUT_FILENO, b"\n");
-    print_items::print_found(rtcp::item_at(d, index as usize));
+    print_found(rtcp::item_at(d, index as usize));
 }
 
 fn print_name(name: &[u8]) {
@@ -68,7 +70,7 @@ fn run_case(s: &[u8], at: usize) -> usize
     }
     print_name(&s[name..flag]);
     if byte_at(s, flag) == 0 {
-        print_items::print_datagram(&s[datagram..next]);
+        print_datagram(&s[datagram..next]);
     } else {
         print_indexed(&s[datagram..next], read64(s, flag + 1));
     }
@@ -76,18 +78,11 @@ fn run_case(s: &[u8], at: usize) -> usize
 }
 
 // Runs every case in turn.
-fn run_cases(s: &[u8])
+pub(crate) fn run_cases(s: &[u8])
     requires { ⌜ length (now s) ≤ 65536 ⌝ }
 {
     let mut at = 0;
     while at < s.len() {
         at = run_case(s, at);
     }
-}
-
-fn main() {
-    // The records of all cases are some 20,000 bytes: more than io::buffer holds.
-    let mut buf = io::large_buffer();
-    let n = io::read_full(STDIN_FILENO, &mut buf);
-    run_cases(&buf[..n]);
 }

@@ -42,7 +42,7 @@ fn print_count(n: usize) {
 }
 
 // One line: a refusal's number and place.
-pub fn print_refusal(r: Refusal) {
+fn print_refusal(r: Refusal) {
     print_number(b"refused ", r.number as u64);
     print_number(b" at ", r.place as u64);
     print_line_end();
@@ -79,7 +79,7 @@ fn print_farewell(place: usize, source: u32) {
 }
 
 // One line: an item and its place.
-pub fn print_item(p: Placed) {
+fn print_item(p: Placed) {
     let place = p.place;
     let item = p.item;
     match item {
@@ -90,7 +90,7 @@ pub fn print_item(p: Placed) {
 }
 
 // One line: the item at an index, or the refusal.
-pub fn print_found(f: Found) {
+pub(crate) fn print_found(f: Found) {
     match f {
         Found::Item(p) => print_item(p),
         Found::Refused(r) => print_refusal(r),
@@ -115,7 +115,7 @@ fn print_from(d: &[u8], start: Cursor) {
 }
 
 // A datagram's refusal, or how many items it has and a line for each.
-pub fn print_datagram(d: &[u8]) {
+pub(crate) fn print_datagram(d: &[u8]) {
     match rtcp::open_datagram(d) {
         Opened::Refused(r) => print_refusal(r),
         Opened::Items(n, start) => {

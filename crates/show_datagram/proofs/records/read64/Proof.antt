@@ -1,8 +1,8 @@
 -- Reading the 64 bits of an index ends and stays in range: the bytes that are left, of eight, are the measure.
 use Prim.Native.Nat.{_-_}
 use borrow.Author.Needs.{needs}
-use Rattle.reader_cases.proofs.read64.Statement.{statement}
-use Rattle.reader_cases.proofs.read64.Tie as tie
+use Rattle.show_datagram.proofs.records.read64.Statement.{statement}
+use Rattle.show_datagram.proofs.records.read64.Tie as tie
 
 abbrev Inv-loop : tie.InvT-loop
 Inv-loop s at n₀ i₀ n i = Unit
