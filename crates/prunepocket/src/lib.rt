@@ -87,8 +87,8 @@ pub extern "C" fn prunepocket_read_items(
 {
     match rtcp::read_rows(datagram, rows) {
         Count::Refused(r) => refuse(r),
-        Count::Items(n) => {
-            *count = n as u64;
+        Count::Items(items) => {
+            *count = items as u64;
             accept()
         }
     }

@@ -113,10 +113,10 @@ fn is_opening(kind: u8) -> bool
 fn is_bad_first(p: usize, kind: u8) -> bool
     ensures { λ r. ⌜ r ≡ (eqb p 0 && not (opens kind)) ⌝ }
 {
-    if p == 0 {
-        return !is_opening(kind);
+    if p != 0 {
+        return false;
     }
-    false
+    !is_opening(kind)
 }
 
 // Check 5: each type with its own least content.
@@ -160,11 +160,13 @@ pub(crate) fn head_at(d: &[u8], p: usize) -> Entry
     if d.len() < p + bytes {
         return Entry::Refused(BAD_PACKET);
     }
-    if is_badly_padded(d, p, bytes) {
+    let h = known_head(d, p, bytes);
+    let padding = is_badly_padded(d, p, bytes);
+    let first = is_bad_first(p, h.kind);
+    if padding {
         return Entry::Refused(BAD_PADDING);
     }
-    let h = known_head(d, p, bytes);
-    if is_bad_first(p, h.kind) {
+    if first {
         return Entry::Refused(BAD_FIRST);
     }
     if is_short(h.kind, h.count, h.content) {

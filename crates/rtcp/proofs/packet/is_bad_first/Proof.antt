@@ -8,17 +8,17 @@ use Rattle.rtcp.proofs.packet.is_bad_first.Reads as reads
 use Rattle.rtcp.proofs.packet.is_bad_first.Lts as lts
 use Rattle.rtcp.proofs.packet.is_opening.Reads as is-opening-reads
 
--- src/packet.rt:114:17
+-- src/packet.rt:117:9
+returns : tie.Need-returns
+returns c = rw (ne-eqb _ 0 (c .if1 .taken))
+
+-- src/packet.rt:119:6
 is-opening-requires : tie.Need-is-opening-requires
 is-opening-requires c κs = search needs
 
--- src/packet.rt:114:9
-returns : tie.Need-returns
-returns c = rw (eq-eqb _ 0 (c .before .if1 .taken)) (ap not (c .is-opening .ensures))
-
--- src/packet.rt:110:1
+-- src/packet.rt:113:1
 returns-2 : tie.Need-returns-2
-returns-2 c = rw (ne-eqb _ 0 (c .if1 .left))
+returns-2 c = rw (eq-eqb _ 0 (c .before .if1 .left)) (ap not (c .is-opening .ensures))
 
 pub is-bad-first-spec : {M : Type 1} → statement M
-is-bad-first-spec = tie.close (tie.spec is-opening-requires returns returns-2)
+is-bad-first-spec = tie.close (tie.spec returns is-opening-requires returns-2)
