@@ -1,44 +1,33 @@
-use Rattle.rtcp.specs.Bytes.{be32}
+-- Four bytes read and joined are the 32 bits at the place.
 use borrow.Author.Needs.{needs}
+use Rattle.rtcp.specs.Bytes.{be32}
 use Rattle.rtcp.proofs.bytes.read32.Statement.{statement}
 use Rattle.rtcp.proofs.bytes.read32.Tie as tie
-use Rattle.rtcp.proofs.bytes.read32.Reads as reads
-use Rattle.rtcp.proofs.bytes.read32.Lts as lts
-use Rattle.rtcp.proofs.bytes.join.Reads as join-reads
 
--- src/bytes.rt:33:10
 shared-slice-read-join : tie.Need-shared-slice-read-join
 shared-slice-read-join c = search needs
 
--- src/bytes.rt:33:19
 add-join : tie.Need-add-join
 add-join c = search needs
 
--- src/bytes.rt:33:17
 shared-slice-read-join-2 : tie.Need-shared-slice-read-join-2
 shared-slice-read-join-2 c = search needs
 
--- src/bytes.rt:33:30
 add-join-2 : tie.Need-add-join-2
 add-join-2 c = search needs
 
--- src/bytes.rt:33:28
 shared-slice-read-join-3 : tie.Need-shared-slice-read-join-3
 shared-slice-read-join-3 c = search needs
 
--- src/bytes.rt:33:41
 add-join-3 : tie.Need-add-join-3
 add-join-3 c = search needs
 
--- src/bytes.rt:33:39
 shared-slice-read-join-4 : tie.Need-shared-slice-read-join-4
 shared-slice-read-join-4 c = search needs
 
--- src/bytes.rt:33:5
 join-requires : tie.Need-join-requires
 join-requires c κs = search needs
 
--- src/bytes.rt:29:1
 returns : tie.Need-returns
 unfolding be32
 returns c = c .join .ensures

@@ -1,38 +1,62 @@
-use Rattle.rtcp.proofs.Laws.Advance.{sources-behind, sources-torn, sources-item, torn-not}
-use mathlib.Core.Path.{_≡_, refl, sym, ap, _∙_}
+-- A source gives a farewell; behind the last one comes the next packet.
+use mathlib.Core.Path.{sym, _∙_}
 use native.Mathlib.Omega.{arith}
-use Prim.Native.Nat.{ℕ, _+_, _-_, _*_, _%_, _≤_, _<_}
 use borrow.Author.Needs.{needs}
+use Rattle.rtcp.proofs.Laws.Advance.{sources-behind, sources-torn, sources-item, torn-not}
 use Rattle.rtcp.proofs.cursor.at_source.Statement.{statement}
 use Rattle.rtcp.proofs.cursor.at_source.Tie as tie
-use Rattle.rtcp.proofs.cursor.at_source.Reads as reads
-use Rattle.rtcp.proofs.cursor.at_source.Lts as lts
-use Rattle.rtcp.proofs.bytes.read32.Reads as read32-reads
-use Rattle.rtcp.proofs.cursor.is_torn.Reads as is-torn-reads
 
--- src/cursor.rt:106:9
 returns : tie.Need-returns
-returns c = sym (sources-behind (c .before .before .args .d .now) (c .before .before .args .at) (c .before .before .args .stop) (c .before .before .args .next) (c .if1 .taken))
+returns c =
+    let d = c .before .before .args .d .now in
+    let at = c .before .before .args .at in
+    let stop = c .before .before .args .stop in
+    let next = c .before .before .args .next in
+    let if1 = c .if1 in
+    sym (sources-behind d at stop next (if1 .taken))
 
--- src/cursor.rt:108:8
 is-torn-requires : tie.Need-is-torn-requires
 is-torn-requires c κs = search needs
 
--- src/cursor.rt:109:9
 returns-2 : tie.Need-returns-2
-returns-2 c = sym (sources-torn (c .before .before .before .before .args .d .now) (c .before .before .before .before .args .at) (c .before .before .before .before .args .stop) (c .before .before .before .before .args .next) (c .before .before .if1 .left) (sym (c .before .is-torn .ensures) ∙ c .if2 .taken))
+returns-2 c =
+    let d = c .before .before .before .before .args .d .now in
+    let at = c .before .before .before .before .args .at in
+    let stop = c .before .before .before .before .args .stop in
+    let next = c .before .before .before .before .args .next in
+    let if1 = c .before .before .if1 in
+    let is-torn = c .before .is-torn in
+    let if2 = c .if2 in
+    sym (sources-torn d at stop next (if1 .left) (sym (is-torn .ensures) ∙ if2 .taken))
 
--- src/cursor.rt:114:34
 read32-requires : tie.Need-read32-requires
-read32-requires c κs = let w : _ = torn-not (c .before .before .before .before .args .d .now) (c .before .before .before .before .args .at) (c .before .before .before .before .args .stop) (sym (c .before .is-torn .ensures) ∙ c .if2 .left) in omega (arith, w .0, w .1)
+read32-requires c κs =
+    let d = c .before .before .before .before .args .d .now in
+    let at = c .before .before .before .before .args .at in
+    let stop = c .before .before .before .before .args .stop in
+    let is-torn = c .before .is-torn in
+    let if2 = c .if2 in
+    let w : _ = torn-not d at stop (sym (is-torn .ensures) ∙ if2 .left) in omega (arith, w .0, w .1)
 
--- src/cursor.rt:116:25
 add-t11 : tie.Need-add-t11
-add-t11 c = let w : _ = torn-not (c .before .before .before .before .before .args .d .now) (c .before .before .before .before .before .args .at) (c .before .before .before .before .before .args .stop) (sym (c .before .before .is-torn .ensures) ∙ c .before .if2 .left) in omega (arith, w .0, w .1)
+add-t11 c =
+    let d = c .before .before .before .before .before .args .d .now in
+    let at = c .before .before .before .before .before .args .at in
+    let stop = c .before .before .before .before .before .args .stop in
+    let is-torn = c .before .before .is-torn in
+    let if2 = c .before .if2 in
+    let w : _ = torn-not d at stop (sym (is-torn .ensures) ∙ if2 .left) in omega (arith, w .0, w .1)
 
--- src/cursor.rt:102:1
 returns-3 : tie.Need-returns-3
-returns-3 c = let e : _ = sources-item (c .before .before .before .before .before .args .d .now) (c .before .before .before .before .before .args .at) (c .before .before .before .before .before .args .stop) (c .before .before .before .before .before .args .next) (c .before .before .before .if1 .left) (sym (c .before .before .is-torn .ensures) ∙ c .before .if2 .left) in cc
+returns-3 c =
+    let d = c .before .before .before .before .before .args .d .now in
+    let at = c .before .before .before .before .before .args .at in
+    let stop = c .before .before .before .before .before .args .stop in
+    let next = c .before .before .before .before .before .args .next in
+    let if1 = c .before .before .before .if1 in
+    let is-torn = c .before .before .is-torn in
+    let if2 = c .before .if2 in
+    let e : _ = sources-item d at stop next (if1 .left) (sym (is-torn .ensures) ∙ if2 .left) in cc
 
 pub at-source-spec : {M : Type 1} → statement M
 at-source-spec =

@@ -1,61 +1,45 @@
-use Rattle.rtcp.specs.Settings.{settingsAt}
+-- The settings' fields, one by one.
 use borrow.Author.Needs.{needs}
+use Rattle.rtcp.specs.Settings.{settingsAt}
 use Rattle.rtcp.proofs.settings.settings_at.Statement.{statement}
 use Rattle.rtcp.proofs.settings.settings_at.Tie as tie
-use Rattle.rtcp.proofs.settings.settings_at.Reads as reads
-use Rattle.rtcp.proofs.settings.settings_at.Lts as lts
-use Rattle.rtcp.proofs.bytes.read32.Reads as read32-reads
-use Rattle.rtcp.proofs.bytes.read64.Reads as read64-reads
 
--- src/settings.rt:16:27
 add-read32 : tie.Need-add-read32
 add-read32 c = search needs
 
--- src/settings.rt:16:17
 read32-requires : tie.Need-read32-requires
 read32-requires c κs = search needs
 
--- src/settings.rt:17:26
 add-read32-2 : tie.Need-add-read32-2
 add-read32-2 c = search needs
 
--- src/settings.rt:17:16
 read32-requires-2 : tie.Need-read32-requires-2
 read32-requires-2 c κs = search needs
 
--- src/settings.rt:18:26
 add-read32-3 : tie.Need-add-read32-3
 add-read32-3 c = search needs
 
--- src/settings.rt:18:16
 read32-requires-3 : tie.Need-read32-requires-3
 read32-requires-3 c κs = search needs
 
--- src/settings.rt:19:29
 add-read64 : tie.Need-add-read64
 add-read64 c = search needs
 
--- src/settings.rt:19:19
 read64-requires : tie.Need-read64-requires
 read64-requires c κs = search needs
 
--- src/settings.rt:20:24
 add-read32-4 : tie.Need-add-read32-4
 add-read32-4 c = search needs
 
--- src/settings.rt:20:14
 read32-requires-4 : tie.Need-read32-requires-4
 read32-requires-4 c κs = search needs
 
--- src/settings.rt:21:30
 add-read64-2 : tie.Need-add-read64-2
 add-read64-2 c = search needs
 
--- src/settings.rt:21:20
 read64-requires-2 : tie.Need-read64-requires-2
 read64-requires-2 c κs = search needs
 
--- src/settings.rt:11:1
 returns : tie.Need-returns
 unfolding settingsAt
 returns c = cc

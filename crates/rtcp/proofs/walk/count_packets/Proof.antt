@@ -1,69 +1,128 @@
+-- The packets checked and counted: the tally of what is left never changes. The measure is what is left of the datagram.
+use Prim.Native.Nat.{_-_, _*_, _%_, _≤_}
+use mathlib.Core.Path.{_≡_, sym, _∙_}
+use lib.ListN.{length}
+use native.Mathlib.Omega.{arith}
+use borrow.Author.Needs.{needs}
 use Rattle.rtcp.specs.Answers.{counted}
 use Rattle.rtcp.specs.Datagram.{packetCheck, packetItems, packetsCheck, packetsItems}
 use Rattle.rtcp.specs.Packet.{size}
 use Rattle.rtcp.proofs.Laws.Datagram.{packets-roomy}
 use Rattle.rtcp.proofs.Laws.Walk.{tally, tally-start, tally-refused, tally-part, tally-end, counted-items, counted-refused}
-use lib.ListN.{length}
-use borrow.Author.Needs.{needs}
-use mathlib.Core.Path.{_≡_, refl, sym, ap, _∙_}
-use native.Mathlib.Omega.{arith}
-use Prim.Native.Nat.{ℕ, _+_, _-_, _*_, _%_, _≤_, _<_}
 use Rattle.rtcp.proofs.walk.count_packets.Statement.{statement}
 use Rattle.rtcp.proofs.walk.count_packets.Tie as tie
-use Rattle.rtcp.proofs.walk.count_packets.Reads as reads
-use Rattle.rtcp.proofs.walk.count_packets.Lts as lts
-use Rattle.rtcp.proofs.packet.packet_size.Reads as packet-size-reads
-use Rattle.rtcp.proofs.walk.count_packet.Reads as count-packet-reads
 
 abbrev Inv-loop : tie.InvT-loop
-Inv-loop d p₀ n₀ p n = (p ≤ length d) × ((length d - p) % 4 ≡ 0) × (4 * n ≤ p) × (counted (packetsCheck d 0) (length (packetsItems d 0)) ≡ tally (packetCheck d) (packetItems d) (size d) (length d) n p)
+Inv-loop d p₀ n₀ p n =
+    (p ≤ length d)
+    × ((length d - p) % 4 ≡ 0)
+    × (4 * n ≤ p)
+    × (counted (packetsCheck d 0) (length (packetsItems d 0)) ≡ tally (packetCheck d) (packetItems d) (size d) (length d) n p)
 
 abbrev μ-loop : tie.MeasureT-loop
 μ-loop d p₀ n₀ p n = length d - p
 
--- src/walk.rt:92:5
 loop-holds : tie.Need-loop-holds Inv-loop μ-loop
-loop-holds c = (omega arith, omega arith, omega arith, sym (tally-start (packetCheck (c .before .args .d .now)) (packetItems (c .before .args .d .now)) (size (c .before .args .d .now)) (length (c .before .args .d .now)) 0))
+loop-holds c =
+    let d = c .before .args .d .now in (
+      omega arith,
+      omega arith,
+      omega arith,
+      sym (tally-start (packetCheck d) (packetItems d) (size d) (length d) 0),
+    )
 
--- src/walk.rt:93:15
 count-packet-requires : tie.Need-count-packet-requires Inv-loop μ-loop
 count-packet-requires c κs = omega arith
 
--- src/walk.rt:94:28
 enum-known-r : tie.Need-enum-known-r Inv-loop μ-loop
 enum-known-r c = search needs
 
--- src/walk.rt:95:17
 returns : tie.Need-returns Inv-loop μ-loop
-returns c = sym (c .before .before .before .before .before .loop .inv .3 ∙ tally-refused (packetCheck (c .before .before .before .before .before .before .before .args .d .now)) (packetItems (c .before .before .before .before .before .before .before .args .d .now)) (size (c .before .before .before .before .before .before .before .args .d .now)) (length (c .before .before .before .before .before .before .before .args .d .now)) (λ k. omega arith) (c .before .before .before .before .before .loop .n) (c .before .before .before .before .before .loop .p) (c .before .r .given .0 .0 .number) (c .before .r .given .0 .0 .place) (omega arith) (counted-refused (packetCheck (c .before .before .before .before .before .before .before .args .d .now) (c .before .before .before .before .before .loop .p)) (length (packetItems (c .before .before .before .before .before .before .before .args .d .now) (c .before .before .before .before .before .loop .p))) (c .before .r .given .0 .0) (sym (c .before .before .before .count-packet .ensures) ∙ c .before .r .given .1)))
+returns c =
+    let inv = c .before .before .before .before .before .loop .inv in
+    let d = c .before .before .before .before .before .before .before .args .d .now in
+    let n = c .before .before .before .before .before .loop .n in
+    let p = c .before .before .before .before .before .loop .p in
+    let r = c .before .r in
+    let count-packet = c .before .before .before .count-packet in
+    sym
+    (inv .3
+    ∙ tally-refused (packetCheck d) (packetItems d) (size d) (length d) (λ k. omega arith) n p
+    (r .given .0 .0 .number) (r .given .0 .0 .place) (omega arith)
+    (counted-refused (packetCheck d p) (length (packetItems d p)) (r .given .0 .0)
+    (sym (count-packet .ensures) ∙ r .given .1)))
 
--- src/walk.rt:97:26
 enum-known-items : tie.Need-enum-known-items Inv-loop μ-loop
 enum-known-items c = search needs
 
--- src/walk.rt:98:17
 add-n : tie.Need-add-n Inv-loop μ-loop
-add-n c = let m : _ = counted-items (packetCheck (c .before .before .before .before .before .before .before .args .d .now) (c .before .before .before .before .before .loop .p)) (length (packetItems (c .before .before .before .before .before .before .before .args .d .now) (c .before .before .before .before .before .loop .p))) (c .before .items .given .0 .0) (sym (c .before .before .before .count-packet .ensures) ∙ c .before .items .given .1) in let r : _ = packets-roomy (c .before .before .before .before .before .before .before .args .d .now) (c .before .before .before .before .before .loop .p) (omega arith) (m .0) in omega (arith, m .1, r .1, r .0)
+add-n c =
+    let d = c .before .before .before .before .before .before .before .args .d .now in
+    let p = c .before .before .before .before .before .loop .p in
+    let items = c .before .items in
+    let count-packet = c .before .before .before .count-packet in
+    let m : _ =
+    counted-items (packetCheck d p) (length (packetItems d p)) (items .given .0 .0)
+    (sym (count-packet .ensures) ∙ items .given .1) in
+    let r : _ = packets-roomy d p (omega arith) (m .0) in omega (arith, m .1, r .1, r .0)
 
--- src/walk.rt:99:22
 packet-size-requires : tie.Need-packet-size-requires Inv-loop μ-loop
 packet-size-requires c κs = omega arith
 
--- src/walk.rt:99:17
 add-p : tie.Need-add-p Inv-loop μ-loop
-add-p c = let m : _ = counted-items (packetCheck (c .before .before .before .before .before .before .before .before .args .d .now) (c .before .before .before .before .before .before .loop .p)) (length (packetItems (c .before .before .before .before .before .before .before .before .args .d .now) (c .before .before .before .before .before .before .loop .p))) (c .before .before .items .given .0 .0) (sym (c .before .before .before .before .count-packet .ensures) ∙ c .before .before .items .given .1) in let r : _ = packets-roomy (c .before .before .before .before .before .before .before .before .args .d .now) (c .before .before .before .before .before .before .loop .p) (omega arith) (m .0) in omega (arith, r .0, c .packet-size .ensures .0)
+add-p c =
+    let d = c .before .before .before .before .before .before .before .before .args .d .now in
+    let p = c .before .before .before .before .before .before .loop .p in
+    let items = c .before .before .items in
+    let count-packet = c .before .before .before .before .count-packet in
+    let packet-size = c .packet-size in
+    let m : _ =
+    counted-items (packetCheck d p) (length (packetItems d p)) (items .given .0 .0)
+    (sym (count-packet .ensures) ∙ items .given .1) in
+    let r : _ = packets-roomy d p (omega arith) (m .0) in omega (arith, r .0, packet-size .ensures .0)
 
--- src/walk.rt:92:5
 loop-less : tie.Need-loop-less Inv-loop μ-loop
-loop-less c = let m : _ = counted-items (packetCheck (c .before .before .before .before .before .before .before .before .args .d .now) (c .before .before .before .before .before .before .loop .p)) (length (packetItems (c .before .before .before .before .before .before .before .before .args .d .now) (c .before .before .before .before .before .before .loop .p))) (c .before .before .items .given .0 .0) (sym (c .before .before .before .before .count-packet .ensures) ∙ c .before .before .items .given .1) in let r : _ = packets-roomy (c .before .before .before .before .before .before .before .before .args .d .now) (c .before .before .before .before .before .before .loop .p) (omega arith) (m .0) in omega (arith, r .0, c .packet-size .ensures .0)
+loop-less c =
+    let d = c .before .before .before .before .before .before .before .before .args .d .now in
+    let p = c .before .before .before .before .before .before .loop .p in
+    let items = c .before .before .items in
+    let count-packet = c .before .before .before .before .count-packet in
+    let packet-size = c .packet-size in
+    let m : _ =
+    counted-items (packetCheck d p) (length (packetItems d p)) (items .given .0 .0)
+    (sym (count-packet .ensures) ∙ items .given .1) in
+    let r : _ = packets-roomy d p (omega arith) (m .0) in omega (arith, r .0, packet-size .ensures .0)
 
--- src/walk.rt:92:5
 loop-again : tie.Need-loop-again Inv-loop μ-loop
-loop-again c = let m : _ = counted-items (packetCheck (c .before .before .before .before .before .before .before .before .args .d .now) (c .before .before .before .before .before .before .loop .p)) (length (packetItems (c .before .before .before .before .before .before .before .before .args .d .now) (c .before .before .before .before .before .before .loop .p))) (c .before .before .items .given .0 .0) (sym (c .before .before .before .before .count-packet .ensures) ∙ c .before .before .items .given .1) in let r : _ = packets-roomy (c .before .before .before .before .before .before .before .before .args .d .now) (c .before .before .before .before .before .before .loop .p) (omega arith) (m .0) in (omega (arith, r .0, c .packet-size .ensures .0), omega (arith, r .0, c .packet-size .ensures .0), omega (arith, m .1, r .1, c .packet-size .ensures .0), c .before .before .before .before .before .before .loop .inv .3 ∙ tally-part (packetCheck (c .before .before .before .before .before .before .before .before .args .d .now)) (packetItems (c .before .before .before .before .before .before .before .before .args .d .now)) (size (c .before .before .before .before .before .before .before .before .args .d .now)) (length (c .before .before .before .before .before .before .before .before .args .d .now)) (λ k. omega arith) (c .before .before .before .before .before .before .loop .n) (c .before .before .before .before .before .before .loop .p) (c .before .before .items .given .0 .0) (c .packet-size .result) (omega arith) (m .0) (m .1) (c .packet-size .ensures .0))
+loop-again c =
+    let d = c .before .before .before .before .before .before .before .before .args .d .now in
+    let p = c .before .before .before .before .before .before .loop .p in
+    let items = c .before .before .items in
+    let count-packet = c .before .before .before .before .count-packet in
+    let packet-size = c .packet-size in
+    let inv = c .before .before .before .before .before .before .loop .inv in
+    let n = c .before .before .before .before .before .before .loop .n in
+    let m : _ =
+    counted-items (packetCheck d p) (length (packetItems d p)) (items .given .0 .0)
+    (sym (count-packet .ensures) ∙ items .given .1) in
+    let r : _ = packets-roomy d p (omega arith) (m .0) in (
+      omega (arith, r .0, packet-size .ensures .0),
+      omega (arith, r .0, packet-size .ensures .0),
+      omega (arith, m .1, r .1, packet-size .ensures .0),
+      inv .3
+          ∙ tally-part (packetCheck d) (packetItems d) (size d) (length d) (λ k. omega arith) n p
+          (items .given .0 .0) (packet-size .result) (omega arith) (m .0) (m .1) (packet-size .ensures .0),
+    )
 
--- src/walk.rt:86:1
 returns-2 : tie.Need-returns-2 Inv-loop μ-loop
-returns-2 c = sym (c .before .loop .inv .3 ∙ tally-end (packetCheck (c .before .before .before .args .d .now)) (packetItems (c .before .before .before .args .d .now)) (size (c .before .before .before .args .d .now)) (length (c .before .before .before .args .d .now)) (λ k. omega arith) (c .before .loop .n) (c .before .loop .p) (omega arith))
+returns-2 c =
+    let inv = c .before .loop .inv in
+    let d = c .before .before .before .args .d .now in
+    let n = c .before .loop .n in
+    let p = c .before .loop .p in
+    sym
+    (inv .3
+    ∙ tally-end (packetCheck d) (packetItems d) (size d) (length d) (λ k. omega arith) n p (omega arith))
 
 pub count-packets-spec : {M : Type 1} → statement M
 count-packets-spec =

@@ -1,42 +1,55 @@
+-- The datagram's refusal first, then 9, then the item.
+use mathlib.Core.Path.{sym, ap, _∙_}
+use native.Mathlib.Omega.{arith}
+use borrow.Author.Needs.{needs}
 use Rattle.rtcp.specs.declared.walk.Found.{Found}
 use Rattle.rtcp.proofs.Laws.Answers.{count-passed, count-refused, item-refused, item-past, item-there}
-use native.Mathlib.Omega.{arith}
-use mathlib.Core.Path.{_≡_, refl, sym, ap, _∙_}
-use borrow.Author.Needs.{needs}
 use Rattle.rtcp.proofs.walk.item_at.Statement.{statement}
 use Rattle.rtcp.proofs.walk.item_at.Tie as tie
-use Rattle.rtcp.proofs.walk.item_at.Reads as reads
-use Rattle.rtcp.proofs.walk.item_at.Lts as lts
-use Rattle.rtcp.proofs.cursor.nth_item.Reads as nth-item-reads
-use Rattle.rtcp.proofs.walk.count_items.Reads as count-items-reads
 
--- src/walk.rt:137:11
 count-items-requires : tie.Need-count-items-requires
 count-items-requires c κs = search needs
 
--- src/walk.rt:138:24
 enum-known-r : tie.Need-enum-known-r
 enum-known-r c = search needs
 
--- src/walk.rt:139:22
 enum-known-n : tie.Need-enum-known-n
 enum-known-n c = search needs
 
--- src/walk.rt:141:17
 returns : tie.Need-returns
-returns c = let m : _ = count-passed (c .before .before .before .before .before .before .args .d .now) (c .before .before .n .given .0 .0) (sym (c .before .before .before .before .count-items .ensures) ∙ c .before .before .n .given .1) in sym (item-past (c .before .before .before .before .before .before .args .d .now) (c .before .before .before .before .before .before .args .index) (m .0) (omega (arith, m .1)))
+returns c =
+    let d = c .before .before .before .before .before .before .args .d .now in
+    let n = c .before .before .n in
+    let count-items = c .before .before .before .before .count-items in
+    let index = c .before .before .before .before .before .before .args .index in
+    let m : _ = count-passed d (n .given .0 .0) (sym (count-items .ensures) ∙ n .given .1) in
+    sym (item-past d index (m .0) (omega (arith, m .1)))
 
--- src/walk.rt:146:25
 nth-item-requires : tie.Need-nth-item-requires
-nth-item-requires c κs = let m : _ = count-passed (c .before .before .before .before .before .before .args .d .now) (c .before .before .n .given .0 .0) (sym (c .before .before .before .before .count-items .ensures) ∙ c .before .before .n .given .1) in (m .0, omega (arith, m .1))
+nth-item-requires c κs =
+    let d = c .before .before .before .before .before .before .args .d .now in
+    let n = c .before .before .n in
+    let count-items = c .before .before .before .before .count-items in
+    let m : _ = count-passed d (n .given .0 .0) (sym (count-items .ensures) ∙ n .given .1) in
+    (m .0, omega (arith, m .1))
 
--- src/walk.rt:134:1
 returns-2 : tie.Need-returns-2
-returns-2 c = sym (item-refused (c .before .before .before .before .before .args .d .now) (c .before .before .before .before .before .args .index) _ _ (count-refused (c .before .before .before .before .before .args .d .now) (c .before .r .given .0 .0) (sym (c .before .before .before .count-items .ensures) ∙ c .before .r .given .1)))
+returns-2 c =
+    let d = c .before .before .before .before .before .args .d .now in
+    let index = c .before .before .before .before .before .args .index in
+    let r = c .before .r in
+    let count-items = c .before .before .before .count-items in
+    sym (item-refused d index _ _ (count-refused d (r .given .0 .0) (sym (count-items .ensures) ∙ r .given .1)))
 
--- src/walk.rt:134:1
 returns-3 : tie.Need-returns-3
-returns-3 c = let m : _ = count-passed (c .before .before .before .before .before .before .before .args .d .now) (c .before .before .before .n .given .0 .0) (sym (c .before .before .before .before .before .count-items .ensures) ∙ c .before .before .before .n .given .1) in ap Found.Item (c .nth-item .ensures) ∙ sym (item-there (c .before .before .before .before .before .before .before .args .d .now) (c .before .before .before .before .before .before .before .args .index) (m .0) (omega (arith, m .1)))
+returns-3 c =
+    let d = c .before .before .before .before .before .before .before .args .d .now in
+    let n = c .before .before .before .n in
+    let count-items = c .before .before .before .before .before .count-items in
+    let nth-item = c .nth-item in
+    let index = c .before .before .before .before .before .before .before .args .index in
+    let m : _ = count-passed d (n .given .0 .0) (sym (count-items .ensures) ∙ n .given .1) in
+    ap Found.Item (nth-item .ensures) ∙ sym (item-there d index (m .0) (omega (arith, m .1)))
 
 pub item-at-spec : {M : Type 1} → statement M
 item-at-spec =
