@@ -13,7 +13,7 @@ test:
 
 run:
 	rt check show_datagram
-	target/bin/show_datagram < crates/show_datagram/stdin
+	target/bin/show_datagram < samples/compound.bin
 
 archive:
 	tools/archive

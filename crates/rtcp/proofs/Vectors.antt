@@ -1,13 +1,13 @@
 -- The definitions at datagrams from the papers.
-use Prim.Native.Nat.{ℕ, _*_, _^_}
+use Prim.Native.Nat.{ℕ, _+_, _*_, _^_}
 use mathlib.Core.Path.{_≡_, refl}
-use mathlib.Core.Bool.{true, false}
+use mathlib.Core.Bool.{true}
 use mathlib.Core.List.{List, [], _∷_, _++_}
 use Rattle.idms.specs.declared.Report.{Report}
+use Rattle.idms.specs.declared.Settings.{Settings}
 use Rattle.idms.specs.declared.Item.{Item}
 use Rattle.rtcp.specs.declared.walk.Count.{Count}
 use Rattle.rtcp.specs.declared.walk.Found.{Found}
-use Rattle.rtcp.specs.Refusals.{Check, passed, refused, refuseIf, andThen}
 use Rattle.rtcp.specs.Bytes.{be16, be32, be64}
 use Rattle.rtcp.specs.Walk.{walking, walk}
 use Rattle.rtcp.specs.Packet.{paddingIsBad, content, byType, contentIsShort, headCheck}
@@ -42,27 +42,36 @@ p5-report =
       presented = 0x03E6C000;
     }
 
-empty-datagram : countOf [] ≡ Count.Refused (refusal 1 0)
-unfolding countOf datagramCheck
-empty-datagram = refl
+-- document 01, P3: the settings of the choice, from sender 1
+p3 : List ℕ
+p3 =
+    0x80 ∷ 0xD3 ∷ 0x00 ∷ 0x08 ∷ 0x00 ∷ 0x00 ∷ 0x00 ∷ 0x01
+    ∷ 0x00 ∷ 0x00 ∷ 0x00 ∷ 0x07 ∷ 0x00 ∷ 0x00 ∷ 0x00 ∷ 0x2A
+    ∷ 0x00 ∷ 0x00 ∷ 0x03 ∷ 0xE6 ∷ 0x00 ∷ 0x00 ∷ 0x00 ∷ 0x00
+    ∷ 0x00 ∷ 0x86 ∷ 0x95 ∷ 0x20 ∷ 0x00 ∷ 0x00 ∷ 0x03 ∷ 0xE6
+    ∷ 0xC0 ∷ 0x00 ∷ 0x00 ∷ 0x00 ∷ []
 
-rr-alone : countOf rr ≡ Count.Items 0
-unfolding countOf datagramCheck datagramItems walk walking packetCheck headCheck paddingIsBad content byType contentIsShort be16 packetItems rr
-rr-alone = refl
+p3-settings : Settings
+p3-settings =
+    record {
+      sender = 1;
+      media = 7;
+      group = 42;
+      received = 998 * 2 ^ 32;
+      rtp = 8820000;
+      presented = 998 * 2 ^ 32 + 0xC0000000;
+    }
 
-rr-alone-index : itemOf rr 0 ≡ Found.Refused (refusal 9 0)
-unfolding itemOf pick datagramCheck datagramItems walk walking packetCheck headCheck paddingIsBad content byType contentIsShort be16 packetItems rr
-rr-alone-index = refl
-
-p5-count : countOf (rr ++ p5) ≡ Count.Items 1
-unfolding countOf datagramCheck datagramItems walk walking packetCheck headCheck paddingIsBad content byType contentIsShort be16 packetItems rr p5 blockCheck blockItems
-p5-count = refl
-
-p5-item : itemOf (rr ++ p5) 0 ≡ Found.Item (record { place = 16; item = Item.Report p5-report })
-unfolding itemOf pick datagramCheck datagramItems walk walking packetCheck headCheck paddingIsBad content byType contentIsShort be16 be32 be64 packetItems rr p5 blockCheck blockItems reportAt p5-report
-p5-item = refl
-
--- without the RR: 4
-p5-first : countOf p5 ≡ Count.Refused (refusal 4 0)
-unfolding countOf datagramCheck datagramItems walk walking packetCheck headCheck paddingIsBad content byType contentIsShort be16 packetItems rr p5 blockCheck blockItems
-p5-first = refl
+-- The empty datagram; one RR alone; P5 and P3 behind an RR; P5 with no RR before it; both behind one RR, and the second
+-- of them. Each is computed from the definitions.
+vectors :
+    (countOf [] ≡ Count.Refused (refusal 1 0))
+    × (countOf rr ≡ Count.Items 0)
+    × (itemOf rr 0 ≡ Found.Refused (refusal 9 0))
+    × (itemOf (rr ++ p5) 0 ≡ Found.Item (record { place = 16; item = Item.Report p5-report }))
+    × (itemOf (rr ++ p3) 0 ≡ Found.Item (record { place = 8; item = Item.Settings p3-settings }))
+    × (countOf p5 ≡ Count.Refused (refusal 4 0))
+    × (countOf (rr ++ p5 ++ p3) ≡ Count.Items 2)
+    × (itemOf (rr ++ p5 ++ p3) 1 ≡ Found.Item (record { place = 48; item = Item.Settings p3-settings }))
+unfolding countOf itemOf pick datagramCheck datagramItems walk walking packetCheck packetItems headCheck paddingIsBad content byType contentIsShort blockCheck blockItems reportAt settingsAt be16 be32 be64 rr p5 p5-report p3 p3-settings
+vectors = (refl, refl, refl, refl, refl, refl, refl, refl)
