@@ -40,7 +40,7 @@ pub struct Placed {
     pub item: Item,
 }
 
-// A refusal's number and the byte of the datagram at which it was met.
+// A refusal's number and its byte place: that of a packet for 2 to 5, of a block for 6 and 7, and 0 for the others.
 pub struct Refusal {
     pub number: u64,
     pub place: usize,
@@ -56,7 +56,7 @@ pub enum Field {
     Absent,
 }
 
-// An item as numbers: kind, place, then its fields at one width. A column that the item does not have holds 0.
+// An item as ten numbers: kind, place, then its fields. A column that the item does not have holds 0.
 pub fn row(p: Placed) -> [u64; 10]
     ensures { λ r. ⌜ r ≡ rowOf p ⌝ }
 {

@@ -12,31 +12,32 @@ use Rattle.prunepocket.specs.declared.Answer.{Answer}
 abbrev pub accepted : Answer
 accepted = record { number = 0; place = 0 }
 
-abbrev pub refusing : Refusal → Answer
-refusing r = record { number = r .number; place = r .place }
+abbrev pub refusalAnswer : Refusal → Answer
+refusalAnswer r = record { number = r .number; place = r .place }
 
--- an answer that is a count
-abbrev pub counting : Count → Answer
-counting (Count.Items n) = accepted
-counting (Count.Refused r) = refusing r
+-- of a call that puts a count: its answer, and the count's memory afterwards
+abbrev pub countAnswer : Count → Answer
+countAnswer (Count.Items n) = accepted
+countAnswer (Count.Refused r) = refusalAnswer r
 
-abbrev pub counted : Count → ℕ → ℕ
-counted (Count.Items n) before = n
-counted (Count.Refused r) before = before
+abbrev pub countAfter : Count → ℕ → ℕ
+countAfter (Count.Items n) before = n
+countAfter (Count.Refused r) before = before
 
--- an answer that is a field of an item: 9 at place 0 where the item has no such field
-abbrev pub picking : Field → Answer
-picking (Field.Value v) = accepted
-picking Field.Absent = record { number = noSuchItem; place = 0 }
+-- of a call that puts a field of an item: its answer, 9 at place 0 also where the item has no such field, and the
+-- field's memory afterwards
+abbrev pub cellAnswer : Field → Answer
+cellAnswer (Field.Value v) = accepted
+cellAnswer Field.Absent = record { number = noSuchItem; place = 0 }
 
-abbrev pub picked : Field → ℕ → ℕ
-picked (Field.Value v) before = v
-picked Field.Absent before = before
+abbrev pub cellAfter : Field → ℕ → ℕ
+cellAfter (Field.Value v) before = v
+cellAfter Field.Absent before = before
 
-abbrev pub reading : Found → ℕ → Answer
-reading (Found.Item x) field = picking (fieldOf x field)
-reading (Found.Refused r) field = refusing r
+abbrev pub fieldAnswer : Found → ℕ → Answer
+fieldAnswer (Found.Item x) field = cellAnswer (fieldOf x field)
+fieldAnswer (Found.Refused r) field = refusalAnswer r
 
-abbrev pub read : Found → ℕ → ℕ → ℕ
-read (Found.Item x) field before = picked (fieldOf x field) before
-read (Found.Refused r) field before = before
+abbrev pub fieldAfter : Found → ℕ → ℕ → ℕ
+fieldAfter (Found.Item x) field before = cellAfter (fieldOf x field) before
+fieldAfter (Found.Refused r) field before = before

@@ -8,7 +8,7 @@ ghost use mathlib.Core.Path.{_≡_};
 ghost use Rattle.idms.specs.Rows.{fieldOf};
 ghost use Rattle.rtcp.specs.Answers.{countOf, itemOf};
 ghost use Rattle.rtcp.specs.Rows.{rowsAnswer, rowsAfter};
-ghost use Rattle.prunepocket.specs.Answers.{accepted, refusing, counting, counted, reading, read};
+ghost use Rattle.prunepocket.specs.Answers.{accepted, refusalAnswer, countAnswer, countAfter, fieldAnswer, fieldAfter};
 
 const NO_SUCH_ITEM: u64 = 9;
 
@@ -29,7 +29,7 @@ fn accept() -> Answer
 }
 
 fn refuse(r: Refusal) -> Answer
-    ensures { λ a. ⌜ a ≡ refusing r ⌝ }
+    ensures { λ a. ⌜ a ≡ refusalAnswer r ⌝ }
 {
     Answer {
         number: r.number as u64,
@@ -37,10 +37,10 @@ fn refuse(r: Refusal) -> Answer
     }
 }
 
-// How many items a datagram has.
+// Puts how many items a datagram has into `count`, which a refusal leaves as it was.
 #[no_mangle]
 pub extern "C" fn prunepocket_count_items(datagram: &[u8], count: &mut u64) -> Answer
-    ensures { λ r. ⌜ (r ≡ counting (countOf (now (datagram .entry)))) × (now (count .exit) ≡ counted (countOf (now (datagram .entry))) (now (count .entry))) ⌝ }
+    ensures { λ r. ⌜ (r ≡ countAnswer (countOf (now (datagram .entry)))) × (now (count .exit) ≡ countAfter (countOf (now (datagram .entry))) (now (count .entry))) ⌝ }
 {
     match rtcp::count_items(datagram) {
         Count::Refused(r) => refuse(r),
@@ -51,7 +51,8 @@ pub extern "C" fn prunepocket_count_items(datagram: &[u8], count: &mut u64) -> A
     }
 }
 
-// One field of the item at an index.
+// Puts one field of the item at an index into `value`, which a refusal leaves as it was. A field that the item does not
+// have gets 9, as an index without an item does.
 #[no_mangle]
 pub extern "C" fn prunepocket_item_field(
     datagram: &[u8],
@@ -59,7 +60,7 @@ pub extern "C" fn prunepocket_item_field(
     field: u64,
     value: &mut u64,
 ) -> Answer
-    ensures { λ r. ⌜ (r ≡ reading (itemOf (now (datagram .entry)) index) field) × (now (value .exit) ≡ read (itemOf (now (datagram .entry)) index) field (now (value .entry))) ⌝ }
+    ensures { λ r. ⌜ (r ≡ fieldAnswer (itemOf (now (datagram .entry)) index) field) × (now (value .exit) ≡ fieldAfter (itemOf (now (datagram .entry)) index) field (now (value .entry))) ⌝ }
 {
     match rtcp::item_at(datagram, index as usize) {
         Found::Refused(r) => refuse(r),
@@ -76,14 +77,14 @@ pub extern "C" fn prunepocket_item_field(
     }
 }
 
-// All items, a row of ten numbers each.
+// Puts all items into `rows`, ten numbers each, and how many there are into `count`. A refusal leaves both as they were.
 #[no_mangle]
 pub extern "C" fn prunepocket_read_items(
     datagram: &[u8],
     rows: &mut [u64],
     count: &mut u64,
 ) -> Answer
-    ensures { λ r. ⌜ (r ≡ counting (rowsAnswer (now (datagram .entry)) (now (rows .entry)))) × (now (rows .exit) ≡ rowsAfter (now (datagram .entry)) (now (rows .entry))) × (now (count .exit) ≡ counted (rowsAnswer (now (datagram .entry)) (now (rows .entry))) (now (count .entry))) ⌝ }
+    ensures { λ r. ⌜ (r ≡ countAnswer (rowsAnswer (now (datagram .entry)) (now (rows .entry)))) × (now (rows .exit) ≡ rowsAfter (now (datagram .entry)) (now (rows .entry))) × (now (count .exit) ≡ countAfter (rowsAnswer (now (datagram .entry)) (now (rows .entry))) (now (count .entry))) ⌝ }
 {
     match rtcp::read_rows(datagram, rows) {
         Count::Refused(r) => refuse(r),

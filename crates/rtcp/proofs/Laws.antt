@@ -6,4 +6,5 @@ pub mod Datagram
 pub mod Answers
 pub mod Advance
 pub mod Cursor
+pub mod Puts
 pub mod Rows

@@ -1,4 +1,4 @@
--- The fields of a datagram. Numbers are big-endian. A byte past the end reads as 0, which no check lets an item see.
+-- The fields of a datagram. Numbers are big-endian. A byte past the end reads as 0; no item reads one.
 use Prim.Native.Nat.{ℕ, _+_, _*_, _^_}
 use mathlib.Core.List.{List}
 use lib.ListN.{getD}

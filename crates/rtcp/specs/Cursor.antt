@@ -1,5 +1,7 @@
--- A cursor over the items of a datagram, and what it gives next. A cursor that the datagram did not give (one of another
--- datagram, or one whose numbers were made up) ends where it meets something that it cannot read.
+-- A cursor over the items of a datagram, and what it gives next. `open_datagram` gives a cursor to datagrams that are not
+-- refused alone; from there, `cursor-in-turn` (proofs/Theorems.antt) says that it gives the datagram's items. A call has
+-- no `requires`, so the definitions speak of every cursor: one of another datagram, or one that was made up, gives what it
+-- can read, whatever checks that datagram fails, and ends where it cannot read on.
 use Prim.Native.Nat.{ℕ, suc, zero, _+_, _-_, _*_}
 use mathlib.Core.List.{List, [], _∷_, _++_}
 use mathlib.Core.Bool.{Bool, not, cond, _&&_, _||_}
@@ -21,7 +23,7 @@ use Rattle.rtcp.specs.Datagram.{sourceItems, blocksItems, packetsItems}
 abbrev pub past : List ℕ → ℕ → Cursor
 past d p = Cursor.Packet (p + size d p)
 
--- The packet lies in the datagram and has its least content: what a cursor looks at again. Checks 2 to 5 say so of
+-- The packet lies in the datagram and has its least content: what a cursor looks at again. Checks 2 and 5 say so of
 -- every packet of a datagram that is not refused.
 unfoldable pub readable : List ℕ → ℕ → Bool
 readable d p = leb (p + size d p) (length d) && not (contentIsShort (packetType d p) (count d p) (content d p))
@@ -37,11 +39,11 @@ entered d p =
     (Advance.Item (settingsItem d p) (past d p))
     (Advance.Onward (past d p))
 
--- what lies from `at` to `stop` is no whole word of this datagram
+-- `stop` lies behind the datagram, or less than a word is left before it
 abbrev pub torn : List ℕ → ℕ → ℕ → Bool
 torn d at stop = ltb (length d) stop || ltb (stop - at) 4
 
--- the item of a part, if it gives one, and the cursor behind it
+-- the item of a block, which gives one at most, and the cursor behind it
 abbrev pub offered : List Placed → Cursor → Advance
 offered [] c = Advance.Onward c
 offered (x ∷ xs) c = Advance.Item x c
@@ -63,13 +65,15 @@ advance d (Cursor.Blocks sender at stop next) =
     (unlessRefused (blockCheck d stop at)
     (offered (blockItems d sender at) (Cursor.Blocks sender (at + blockSize d at) stop next))))
 
--- what is left to step over
+-- What is left to step over. Every step that gives no item makes it smaller: a step over a block by its bytes; the step
+-- from a packet's last part to the next packet by one; a step into a packet since its parts lie in it, and it counts
+-- twice as long as they do.
 abbrev pub left : List ℕ → Cursor → ℕ
 left d (Cursor.Packet p) = 2 * (length d - p)
-left d (Cursor.Sources at stop next) = suc (stop - at + 2 * (length d - next))
-left d (Cursor.Blocks sender at stop next) = suc (stop - at + 2 * (length d - next))
+left d (Cursor.Sources at stop next) = suc ((stop - at) + 2 * (length d - next))
+left d (Cursor.Blocks sender at stop next) = suc ((stop - at) + 2 * (length d - next))
 
--- steps up to the first item; the first argument bounds their number
+-- steps up to the first item; the first argument bounds their number, and `left` is enough
 unfoldable pub seek : ℕ → List ℕ → Cursor → Step
 seek zero d c = Step.End
 seek (suc k) d c =
@@ -93,7 +97,8 @@ remaining d (Cursor.Packet p) = packetsItems d p
 remaining d (Cursor.Sources at stop next) = sourceItems d stop at ++ packetsItems d next
 remaining d (Cursor.Blocks sender at stop next) = blocksItems d sender stop at ++ packetsItems d next
 
--- what a cursor gives when it is asked again and again, at most as often as the first argument says
+-- what a cursor gives when it is asked again and again, at most as often as the first argument says (`cursor-in-turn`
+-- speaks of it)
 unfoldable pub given : ℕ → List ℕ → Cursor → List Placed
 given zero d c = []
 given (suc k) d c =

@@ -30,17 +30,23 @@ blocksItems d sender stop at = gives (blockItems d sender) (blockSize d) stop at
 unfoldable pub packetCheck : List ℕ → ℕ → Check
 packetCheck d p =
     andThen (headCheck d p)
-    (byType (packetType d p) passed passed passed (blocksCheck d (p + content d p) (p + 8)) passed passed)
+    (byType (packetType d p)
+    passed  -- SR
+    passed  -- RR
+    passed  -- BYE
+    (blocksCheck d (p + content d p) (p + 8))  -- XR
+    passed  -- IDMS settings
+    passed)
 
 -- one packet's items, by its type
 unfoldable pub packetItems : List ℕ → ℕ → List Placed
 packetItems d p =
     byType (packetType d p)
-    []
-    []
-    (sourceItems d (p + (4 + 4 * count d p)) (p + 4))
-    (blocksItems d (be32 d (p + 4)) (p + content d p) (p + 8))
-    (settingsItem d p ∷ [])
+    []  -- SR
+    []  -- RR
+    (sourceItems d (p + (4 + 4 * count d p)) (p + 4))  -- BYE
+    (blocksItems d (be32 d (p + 4)) (p + content d p) (p + 8))  -- XR
+    (settingsItem d p ∷ [])  -- IDMS settings
     []
 
 -- the packets from p on

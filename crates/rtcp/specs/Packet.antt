@@ -17,7 +17,7 @@ abbrev pub version : List ℕ → ℕ → ℕ
 version d p = byte d p / 2 ^ 6
 
 abbrev pub padded : List ℕ → ℕ → Bool
-padded d p = eqb (byte d p / 2 ^ 5 % 2) 1
+padded d p = eqb ((byte d p / 2 ^ 5) % 2) 1
 
 abbrev pub count : List ℕ → ℕ → ℕ
 count d p = byte d p % 2 ^ 5
@@ -58,7 +58,7 @@ byType type sr rr bye xr settings other =
     (cond (eqb type 207) xr
     (cond (eqb type 211) settings other))))
 
--- Least content: 200, 28 + 24 × count; 201, 8 + 24 × count; 203, 4 + 4 × count; 207, 8; 211, exactly 36.
+-- Check 5. Least content: 200, 28 + 24 × count; 201, 8 + 24 × count; 203, 4 + 4 × count; 207, 8. For 211, exactly 36.
 unfoldable pub contentIsShort : ℕ → ℕ → ℕ → Bool
 contentIsShort type number bytes =
     byType type

@@ -1,9 +1,8 @@
 -- All items of a datagram in an array of numbers, ten an item.
-use Prim.Native.Nat.{ℕ, _+_, _*_}
-use mathlib.Core.List.{List, [], _∷_, _++_}
+use Prim.Native.Nat.{ℕ, _*_}
+use mathlib.Core.List.{List, _++_}
 use mathlib.Core.Bool.{Bool, cond}
 use lib.ListN.{length, drop}
-use lib.Seq.{paste}
 use lib.Dec.{ltb}
 use Rattle.idms.specs.Rows.{rowOf}
 use Rattle.idms.specs.declared.Placed.{Placed}
@@ -11,16 +10,15 @@ use Rattle.rtcp.specs.declared.walk.Count.{Count}
 use Rattle.rtcp.specs.Refusals.{Check, passed, refused, shortBuffer}
 use Rattle.rtcp.specs.Datagram.{datagramCheck, datagramItems}
 use Rattle.rtcp.specs.Answers.{refusal}
+use Rattle.rtcp.specs.Puts.{flat, puts}
 
 -- the rows of items, one behind the other
 abbrev pub rowsOf : List Placed → List ℕ
-rowsOf [] = []
-rowsOf (x ∷ l) = rowOf x ++ rowsOf l
+rowsOf items = flat rowOf items
 
--- an array with the rows of items put into it one behind the other, the first at a cell
+-- an array with the rows of items put into it, the first at a cell
 abbrev pub put : List ℕ → ℕ → List Placed → List ℕ
-put rows at [] = rows
-put rows at (x ∷ l) = put (paste rows at (rowOf x) 10) (at + 10) l
+put rows at items = puts rowOf 10 rows at items
 
 -- the array has no room for n rows
 abbrev pub tooShort : ℕ → List ℕ → Bool

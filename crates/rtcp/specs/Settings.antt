@@ -1,9 +1,9 @@
--- The IDMS settings packet (RFC 7272 section 7), type 211, 9 words. Its five count bits are reserved and ignored.
+-- The IDMS settings packet (RFC 7272 section 7), type 211, 9 words without padding. Its five count bits are reserved and ignored.
 --
 --      0                   1                   2                   3
 --      0 1 2 3 4 5 6 7 8 9 0 1 2 3 4 5 6 7 8 9 0 1 2 3 4 5 6 7 8 9 0 1
 --     +-+-+-+-+-+-+-+-+-+-+-+-+-+-+-+-+-+-+-+-+-+-+-+-+-+-+-+-+-+-+-+-+
---     |V=2|P| reserved|    PT=211     |           length=8            |
+--     |V=2|P| reserved|    PT=211     |   length (8 without padding)  |
 --     +-+-+-+-+-+-+-+-+-+-+-+-+-+-+-+-+-+-+-+-+-+-+-+-+-+-+-+-+-+-+-+-+
 --     |                     SSRC of packet sender                     |
 --     +-+-+-+-+-+-+-+-+-+-+-+-+-+-+-+-+-+-+-+-+-+-+-+-+-+-+-+-+-+-+-+-+

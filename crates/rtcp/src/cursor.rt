@@ -33,7 +33,7 @@ pub enum Cursor {
     Blocks(u32, usize, usize, usize),
 }
 
-// A datagram that is not refused: how many items it has, and a cursor before the first.
+// How many items a datagram has and a cursor before the first, or the datagram's refusal.
 pub enum Opened {
     Items(usize, Cursor),
     Refused(Refusal),
@@ -62,7 +62,7 @@ fn minus(a: usize, b: usize) -> usize
     a - b
 }
 
-// Whether what lies from `at` to `stop` is no whole word of the datagram.
+// Whether `stop` lies behind the datagram, or less than a word is left before it.
 fn is_torn(d: &[u8], at: usize, stop: usize) -> bool
     ensures { λ r. ⌜ r ≡ torn (now (d .entry)) at stop ⌝ }
 {
@@ -170,7 +170,7 @@ fn stepped(d: &[u8], c: Cursor) -> Advance
     }
 }
 
-// The next item of the datagram and the cursor behind it.
+// The next item of the datagram that the cursor was opened on and the cursor behind it, or the end.
 pub fn next_item(d: &[u8], from: Cursor) -> Step
     ensures { λ r. ⌜ r ≡ nextOf (now (d .entry)) from ⌝ }
 {

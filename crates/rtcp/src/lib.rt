@@ -1,6 +1,6 @@
-// Reads RTCP datagrams for inter-destination media synchronization (RFC 7272): how many items a datagram has, the
-// item at an index, and a cursor over all of them. Every call takes any bytes and answers with a refusal where the
-// datagram breaks a rule.
+// Reads RTCP datagrams for inter-destination media synchronization (RFC 7272): how many items a datagram has, the item
+// at an index, all of them as rows of numbers, and a cursor over them. Every call takes any bytes; a datagram that breaks
+// a rule is refused before any item is given.
 mod bytes;
 mod cursor;
 mod packet;

@@ -16,7 +16,7 @@ const BLOCK_PAST_END: u64 = 6;
 const BAD_BLOCK_LENGTH: u64 = 7;
 
 // What is found at a block: one of type 12, whose 32 bytes check 7 has seen to, with how many items it gives; another
-// type of as many bytes; or the number of a refusal.
+// type, with its bytes; or the number of a refusal.
 pub(crate) enum Block {
     Idms(usize),
     Other(usize),

@@ -113,7 +113,7 @@ fn fill_packet(d: &[u8], rows: &mut [u64], at: usize, p: usize) -> usize
     }
 }
 
-// Puts the rows of a datagram's n items at the front. It stops behind the last of them.
+// Puts the rows of a datagram's n items at the front, and walks no further than the last of them.
 fn fill_rows(d: &[u8], rows: &mut [u64], n: usize)
     requires { ⌜ (datagramCheck (now d) ≡ passed) × (n ≡ length (datagramItems (now d))) × (10 * n ≤ length (now rows)) ⌝ }
     ensures { λ _. ⌜ now (rows .exit) ≡ put (now (rows .entry)) 0 (datagramItems (now (d .entry))) ⌝ }

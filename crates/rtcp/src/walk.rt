@@ -22,13 +22,13 @@ const BAD_LENGTH: u64 = 1;
 
 const NO_SUCH_ITEM: u64 = 9;
 
-// How many items a datagram has.
+// How many items a datagram has, or its refusal.
 pub enum Count {
     Items(usize),
     Refused(Refusal),
 }
 
-// The item at an index.
+// The item at an index, or the refusal.
 pub enum Found {
     Item(Placed),
     Refused(Refusal),

@@ -5,7 +5,7 @@ use Rattle.idms.specs.Rows.{fieldOf}
 use Rattle.idms.specs.declared.Field.{Field}
 use Rattle.rtcp.specs.Answers.{itemOf}
 use Rattle.rtcp.specs.declared.walk.Found.{Found}
-use Rattle.prunepocket.specs.Answers.{reading, read, picking, picked}
+use Rattle.prunepocket.specs.Answers.{fieldAnswer, fieldAfter, cellAnswer, cellAfter}
 use Rattle.prunepocket.proofs.prunepocket_item_field.Statement.{statement}
 use Rattle.prunepocket.proofs.prunepocket_item_field.Tie as tie
 
@@ -43,8 +43,8 @@ returns c =
     let field = c .before .before .before .before .before .before .args .field in
     let value = c .before .before .before .before .before .before .args .value .now in
     let g : itemOf datagram index ≡ Found.Refused (r .given .0 .0) = sym (item-at .ensures) ∙ r .given .1 in (
-      refuse .ensures ∙ sym (ap (λ (x : Found). reading x field) g),
-      sym (ap (λ (x : Found). read x field value) g),
+      refuse .ensures ∙ sym (ap (λ (x : Found). fieldAnswer x field) g),
+      sym (ap (λ (x : Found). fieldAfter x field value) g),
     )
 
 returns-2 : tie.Need-returns-2
@@ -59,8 +59,8 @@ returns-2 c =
     let value = c .before .before .before .before .before .before .before .before .args .value .now in
     let g : itemOf datagram index ≡ Found.Item (x′ .given .0 .0) = sym (item-at .ensures) ∙ x′ .given .1 in
     let h : fieldOf (x′ .given .0 .0) field ≡ Field.Absent = sym (field-at .ensures) ∙ enum-told .given .1 in (
-      sym (ap (λ (x : Found). reading x field) g ∙ ap picking h),
-      sym (ap (λ (x : Found). read x field value) g ∙ ap (λ (y : Field). picked y value) h),
+      sym (ap (λ (x : Found). fieldAnswer x field) g ∙ ap cellAnswer h),
+      sym (ap (λ (x : Found). fieldAfter x field value) g ∙ ap (λ (y : Field). cellAfter y value) h),
     )
 
 returns-3 : tie.Need-returns-3
@@ -77,8 +77,8 @@ returns-3 c =
     let g : itemOf datagram index ≡ Found.Item (x′ .given .0 .0) = sym (item-at .ensures) ∙ x′ .given .1 in
     let h : fieldOf (x′ .given .0 .0) field ≡ Field.Value (v .given .0 .0) =
     sym (field-at .ensures) ∙ v .given .1 in (
-      accept .ensures ∙ sym (ap (λ (x : Found). reading x field) g ∙ ap picking h),
-      sym (ap (λ (x : Found). read x field value) g ∙ ap (λ (y : Field). picked y value) h),
+      accept .ensures ∙ sym (ap (λ (x : Found). fieldAnswer x field) g ∙ ap cellAnswer h),
+      sym (ap (λ (x : Found). fieldAfter x field value) g ∙ ap (λ (y : Field). cellAfter y value) h),
     )
 
 pub prunepocket-item-field-spec : {M : Type 1} → statement M

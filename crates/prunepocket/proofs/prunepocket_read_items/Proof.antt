@@ -3,7 +3,7 @@ use mathlib.Core.Path.{_≡_, sym, ap, _∙_}
 use borrow.Author.Needs.{needs}
 use Rattle.rtcp.specs.Rows.{rowsAnswer}
 use Rattle.rtcp.specs.declared.walk.Count.{Count}
-use Rattle.prunepocket.specs.Answers.{counting, counted}
+use Rattle.prunepocket.specs.Answers.{countAnswer, countAfter}
 use Rattle.prunepocket.proofs.prunepocket_read_items.Statement.{statement}
 use Rattle.prunepocket.proofs.prunepocket_read_items.Tie as tie
 
@@ -35,7 +35,7 @@ returns c =
     let count = c .before .before .before .before .before .before .before .before .before .before .args .count .now in
     let g : rowsAnswer datagram rows ≡ Count.Refused (r .given .0 .0) =
     sym (read-rows .ensures .0) ∙ r .given .1 in
-    (refuse .ensures ∙ sym (ap counting g), read-rows .ensures .1, sym (ap (λ (k : Count). counted k count) g))
+    (refuse .ensures ∙ sym (ap countAnswer g), read-rows .ensures .1, sym (ap (λ (k : Count). countAfter k count) g))
 
 same-length-2 : tie.Need-same-length-2
 same-length-2 c = search needs
@@ -50,7 +50,7 @@ returns-2 c =
     let count = c .before .before .before .before .before .before .before .before .before .before .args .count .now in
     let g : rowsAnswer datagram rows ≡ Count.Items (items .given .0 .0) =
     sym (read-rows .ensures .0) ∙ items .given .1 in
-    (accept .ensures ∙ sym (ap counting g), read-rows .ensures .1, sym (ap (λ (k : Count). counted k count) g))
+    (accept .ensures ∙ sym (ap countAnswer g), read-rows .ensures .1, sym (ap (λ (k : Count). countAfter k count) g))
 
 pub prunepocket-read-items-spec : {M : Type 1} → statement M
 prunepocket-read-items-spec =

@@ -12,7 +12,7 @@ use Rattle.idms.specs.declared.Placed.{Placed}
 use Rattle.rtcp.specs.declared.report.Block.{Block}
 use Rattle.rtcp.specs.Refusals.{Check, passed, refused, refuseIf}
 use Rattle.rtcp.specs.Report.{blockType, blockLength, blockSize, blockCheck, role, reports, reportAt, blockItems}
-use Rattle.rtcp.specs.Head.{sorted, meeting, blockIs}
+use Rattle.rtcp.specs.Head.{blockKind, meeting, blockIs}
 use Rattle.rtcp.proofs.Laws.Packet.{check-passes, RefusesAt, passed-refuses-at, refuseIf-refuses-at}
 
 -- ---- blockItems
@@ -93,19 +93,19 @@ module _ (d : List ℕ) (stop at : ℕ) where
 -- ---- blockIs, the other way: what an answer says of the checks
 
 meeting-idms :
-    (k : Check) (t r : Bool) (b i : ℕ) → meeting k (sorted t r b) ≡ Block.Idms i → (k ≡ passed) × (t ≡ true) × (i ≡ cond r 1 0)
+    (k : Check) (t r : Bool) (b i : ℕ) → meeting k (blockKind t r b) ≡ Block.Idms i → (k ≡ passed) × (t ≡ true) × (i ≡ cond r 1 0)
 meeting-idms passed true r b i e = (refl, refl, cc)
 meeting-idms passed false r b i e = let z : _≡_ {A = ℕ} 0 1 = cc in absurd (omega arith)
 meeting-idms (refused number place) t r b i e = let z : _≡_ {A = ℕ} 0 1 = cc in absurd (omega arith)
 
 meeting-other :
-    (k : Check) (t r : Bool) (b b′ : ℕ) → meeting k (sorted t r b) ≡ Block.Other b′ → (k ≡ passed) × (t ≡ false) × (b′ ≡ b)
+    (k : Check) (t r : Bool) (b b′ : ℕ) → meeting k (blockKind t r b) ≡ Block.Other b′ → (k ≡ passed) × (t ≡ false) × (b′ ≡ b)
 meeting-other passed true r b b′ e = let z : _≡_ {A = ℕ} 0 1 = cc in absurd (omega arith)
 meeting-other passed false r b b′ e = (refl, refl, cc)
 meeting-other (refused number place) t r b b′ e = let z : _≡_ {A = ℕ} 0 1 = cc in absurd (omega arith)
 
 meeting-refused :
-    (k : Check) (t r : Bool) (b n : ℕ) → meeting k (sorted t r b) ≡ Block.Refused n → (q : ℕ) × (k ≡ refused n q)
+    (k : Check) (t r : Bool) (b n : ℕ) → meeting k (blockKind t r b) ≡ Block.Refused n → (q : ℕ) × (k ≡ refused n q)
 meeting-refused passed true r b n e = let z : _≡_ {A = ℕ} 0 1 = cc in absurd (omega arith)
 meeting-refused passed false r b n e = let z : _≡_ {A = ℕ} 0 1 = cc in absurd (omega arith)
 meeting-refused (refused number place) t r b n e = (place, cc)

@@ -1,10 +1,10 @@
 -- Laws of rows: what an array holds once rows have been put into it one behind the other.
 use Prim.Native.Nat.{ℕ, _+_, _*_, _≤_, _<_}
 use mathlib.Core.Path.{_≡_, refl, sym, ap, _∙_}
-use mathlib.Core.List.{List, [], _∷_, _++_, append-assoc}
+use mathlib.Core.List.{List, [], _∷_, _++_}
 use mathlib.Core.Bool.{Bool, true, false}
-use lib.ListN.{length, take, drop, length-append}
-use lib.Seq.{paste, paste-zero, take-paste, drop-paste, length-paste, drop-drop, take-all}
+use lib.ListN.{length, length-append}
+use lib.Seq.{paste}
 use native.Mathlib.Omega.{arith}
 use lib.Dec.{ltb}
 use borrow.Author.Tests.{lt-ltb, le-ltb, ltb-true, ltb-false}
@@ -16,9 +16,10 @@ use Rattle.rtcp.specs.declared.walk.Count.{Count}
 use Rattle.rtcp.specs.Refusals.{Check, passed, refused}
 use Rattle.rtcp.specs.Datagram.{packetsItems, datagramCheck, datagramItems}
 use Rattle.rtcp.specs.Answers.{refusal, countOf}
+use Rattle.rtcp.proofs.Laws.Puts.{puts-front, length-puts, puts-append}
 use Rattle.rtcp.proofs.Laws.Datagram.{packets-end}
 use Rattle.rtcp.proofs.Laws.Answers.{count-passed, count-refused}
-use Rattle.rtcp.specs.Rows.{rowsOf, put, rowsAnswer, rowsAfter}
+use Rattle.rtcp.specs.Rows.{put, rowsAnswer, rowsAfter}
 
 -- ---- rowOf
 
@@ -33,55 +34,6 @@ length-rowOf x = go (x .place) (x .item)
 pub nothing-left : (l : List Placed) → length l ≤ 0 → l ≡ []
 nothing-left [] h = refl
 nothing-left (x ∷ l) h = absurd (omega arith)
-
--- ---- put
-
--- a row changes no length
-pub length-put-row : (rows : List ℕ) (at : ℕ) (x : Placed) → at + 10 ≤ length rows → length (paste rows at (rowOf x) 10) ≡ length rows
-length-put-row rows at x h = length-paste rows at (rowOf x) 10 h (omega (arith, length-rowOf x))
-
-pub put-rows :
-    (l : List Placed) (rows : List ℕ) (at : ℕ) → at + 10 * length l ≤ length rows
-    → put rows at l ≡ take at rows ++ rowsOf l ++ drop (at + 10 * length l) rows
-put-rows [] rows at h = paste-zero rows at []
-put-rows (x ∷ l) rows at h =
-    let long : length (paste rows at (rowOf x) 10) ≡ length rows = length-put-row rows at x (omega arith) in
-    let ten : 10 ≤ length (rowOf x) = omega (arith, length-rowOf x) in
-    let front : take (at + 10) (paste rows at (rowOf x) 10) ≡ take at rows ++ rowOf x =
-    take-paste rows at (rowOf x) 10 (omega arith) ten ∙ ap (λ (r : List ℕ). take at rows ++ r) (take-all 10 (rowOf x) (omega (arith, length-rowOf x))) in
-    let back : drop (at + 10 + 10 * length l) (paste rows at (rowOf x) 10) ≡ drop (at + 10 * length (x ∷ l)) rows =
-    sym (drop-drop (10 * length l) (at + 10) (paste rows at (rowOf x) 10))
-    ∙ ap (drop (10 * length l)) (drop-paste rows at (rowOf x) 10 (omega arith) ten)
-    ∙ drop-drop (10 * length l) (at + 10) rows
-    ∙ ap (λ (k : ℕ). drop k rows) (same (length l)) in
-    put-rows l (paste rows at (rowOf x) 10) (at + 10) (omega (arith, long))
-    ∙ ap (λ (r : List ℕ). r ++ rowsOf l ++ drop (at + 10 + 10 * length l) (paste rows at (rowOf x) 10)) front
-    ∙ ap (λ (r : List ℕ). take at rows ++ rowOf x ++ rowsOf l ++ r) back
-    ∙ ap (λ (r : List ℕ). r ++ drop (at + 10 * length (x ∷ l)) rows) (append-assoc (take at rows) (rowOf x) (rowsOf l))
-  where
-    same : (n : ℕ) → at + 10 + 10 * n ≡ at + 10 * Prim.Native.Nat.suc n
-    same n = omega arith
-
--- from the first cell on, nothing stands before the rows
-pub put-front : (l : List Placed) (rows : List ℕ) → 10 * length l ≤ length rows → put rows 0 l ≡ rowsOf l ++ drop (10 * length l) rows
-put-front l rows h =
-    let all : 0 + 10 * length l ≡ 10 * length l = omega arith in
-    put-rows l rows 0 (omega arith) ∙ ap (λ (k : ℕ). rowsOf l ++ drop k rows) all
-
-pub length-put : (l : List Placed) (rows : List ℕ) (at : ℕ) → at + 10 * length l ≤ length rows → length (put rows at l) ≡ length rows
-length-put [] rows at h = refl
-length-put (x ∷ l) rows at h =
-    let one : _ = length-put-row rows at x (omega arith) in
-    length-put l (paste rows at (rowOf x) 10) (at + 10) (omega (arith, one)) ∙ one
-
-pub put-append :
-    (l m : List Placed) (rows : List ℕ) (at : ℕ) → put rows at (l ++ m) ≡ put (put rows at l) (at + 10 * length l) m
-put-append [] m rows at = let none : at ≡ at + 10 * 0 = omega arith in ap (λ (k : ℕ). put rows k m) none
-put-append (x ∷ l) m rows at =
-    put-append l m (paste rows at (rowOf x) 10) (at + 10) ∙ ap (λ (k : ℕ). put (put (paste rows at (rowOf x) 10) (at + 10) l) k m) (same (length l))
-  where
-    same : (n : ℕ) → at + 10 + 10 * n ≡ at + 10 * Prim.Native.Nat.suc n
-    same n = omega arith
 
 -- ---- Filling: what a loop that puts rows keeps. `items₀` were to be put from the cell `at` on; `items` are left to put
 -- from `cell` on.
@@ -102,12 +54,12 @@ module _ {rows₀ : List ℕ} {at : ℕ} {items₀ : List Placed} {rows : List �
   filling-part l rest rows′ cell′ e h r k =
       let n : length items ≡ length l + length rest = ap length e ∙ length-append l rest in
       record {
-        long = ap length r ∙ length-put l rows cell (omega (arith, f .long, f .cells)) ∙ f .long;
+        long = ap length r ∙ length-puts rowOf 10 length-rowOf l rows cell (omega (arith, f .long, f .cells)) ∙ f .long;
         cells = omega (arith, f .cells);
         all =
             ap (λ (x : List ℕ). put x cell′ rest) r
             ∙ ap (λ (x : ℕ). put (put rows cell l) x rest) k
-            ∙ sym (put-append l rest rows cell)
+            ∙ sym (puts-append rowOf 10 length-rowOf l rest rows cell)
             ∙ ap (put rows cell) (sym e)
             ∙ f .all;
       }
@@ -165,4 +117,4 @@ module _ (d rows : List ℕ) where
     rows-filled h =
         let m : _ = count-passed d n e in
         rw (m .0, le-ltb (length rows) (10 * length (datagramItems d)) (omega (arith, m .1)))
-        (ap Count.Items (m .1), put-front (datagramItems d) rows (omega (arith, m .1)))
+        (ap Count.Items (m .1), puts-front rowOf 10 length-rowOf (datagramItems d) rows (omega (arith, m .1)))
