@@ -1,0 +1,62 @@
+-- Laws of the messages' bytes, and of a writer's answer and buffer by what was checked.
+use Prim.Native.Nat.{ℕ, suc, _+_, _*_, _≤_, _<_}
+use mathlib.Core.Path.{_≡_, refl, sym, ap, _∙_}
+use mathlib.Core.List.{List, [], _∷_}
+use mathlib.Core.Bool.{Bool, true, false, not, _&&_, _||_}
+use lib.ListN.{length, set}
+use lib.Seq.{paste, sets, sets-eq}
+use native.Mathlib.Numerals.{add-one, add-two, add-three}
+use native.Mathlib.Omega.{arith}
+use lib.Dec.{ltb, eqb}
+use borrow.Author.Tests.{lt-ltb, le-ltb, ltb-false}
+use mir.Val.{boolByte}
+use Rattle.idms.specs.declared.Report.{Report}
+use Rattle.rtcp.specs.Puts.{puts}
+use Rattle.rtcp.proofs.Laws.Packet.{or-false}
+use Rattle.rtcp.proofs.Laws.Puts.{puts-front}
+use Rattle.writer.specs.declared.Written.{Written}
+use Rattle.writer.specs.Messages.{bytes32, reportIsUnwritable, written, buffer}
+
+-- ---- bytes32
+
+pub length-bytes32 : (w : ℕ) → length (bytes32 w) ≡ 4
+length-bytes32 w = refl
+
+-- four stores, one behind the other, put four numbers at a place
+pub four-stores :
+    (l : List ℕ) (at a b c d : ℕ) → at + 4 ≤ length l
+    → set (set (set (set l at a) (at + 1) b) (at + 2) c) (at + 3) d ≡ paste l at (a ∷ b ∷ c ∷ d ∷ []) 4
+four-stores l at a b c d h = rw (add-one at, add-two at, add-three at) (sets-eq (a ∷ b ∷ c ∷ d ∷ []) l at h)
+
+pub bit-bound : (t : Bool) → boolByte t ≤ 1
+bit-bound true = omega arith
+bit-bound false = omega arith
+
+-- ---- written and buffer
+
+module _ (unwritable : Bool) (words buf : List ℕ) where
+  pub message-refused :
+      unwritable ≡ true → (Written.Refused 11 ≡ written unwritable words buf) × (buf ≡ buffer unwritable words buf)
+  message-refused e = rw e (refl, refl)
+
+  module _ (e : unwritable ≡ false) where
+    pub message-short :
+        length buf < 4 * length words
+        → (Written.Refused 10 ≡ written unwritable words buf) × (buf ≡ buffer unwritable words buf)
+    message-short h = rw (e, lt-ltb (length buf) (4 * length words) h) (refl, refl)
+
+    pub message-written :
+        4 * length words ≤ length buf
+        → (Written.Bytes (4 * length words) ≡ written unwritable words buf)
+        × (puts bytes32 4 buf 0 words ≡ buffer unwritable words buf)
+    message-written h =
+        rw (e, le-ltb (length buf) (4 * length words) h) (refl, puts-front bytes32 4 length-bytes32 words buf h)
+
+-- refusal 11 keeps the payload type within its 7 bits
+pub writable-payload : (r : Report) → reportIsUnwritable r ≡ false → r .«payload_type» < 128
+unfolding reportIsUnwritable
+writable-payload r h =
+    let rest : _ =
+        or-false (ltb 127 (r .«payload_type») || eqb (r .group) 4294967295) (not (r .p) && not (eqb (r .presented) 0)) h in
+    let both : _ = or-false (ltb 127 (r .«payload_type»)) (eqb (r .group) 4294967295) (rest .0) in
+    omega (arith, ltb-false 127 (r .«payload_type») (both .0))
