@@ -2,15 +2,22 @@
 // function of a crate below and hands its answer on as plain numbers.
 use idms::Field;
 use idms::Refusal;
+use idms::Report;
+use idms::Settings;
 use rtcp::Count;
 use rtcp::Found;
+use writer::Written;
 ghost use mathlib.Core.Path.{_≡_};
 ghost use Rattle.idms.specs.Rows.{fieldOf};
 ghost use Rattle.rtcp.specs.Answers.{countOf, itemOf};
 ghost use Rattle.rtcp.specs.Rows.{rowsAnswer, rowsAfter};
+ghost use Rattle.writer.specs.Messages.{reportWords, settingsWords, settingsAreUnwritable};
+ghost use Rattle.prunepocket.specs.Messages.{reportOf, settingsOf, reportIsOut, writeAnswer, writeAfter, Wrote};
 ghost use Rattle.prunepocket.specs.Answers.{accepted, refusalAnswer, countAnswer, countAfter, fieldAnswer, fieldAfter};
 
 const NO_SUCH_ITEM: u64 = 9;
+
+const OUT_OF_RANGE: u64 = 11;
 
 // A refusal's number and place, or 0 and 0 where there was none.
 #[repr(C)]
@@ -93,4 +100,94 @@ pub extern "C" fn prunepocket_read_items(
             accept()
         }
     }
+}
+
+fn answer_write(w: Written) -> Answer
+    ensures { λ a. ⌜ a ≡ writeAnswer w ⌝ }
+{
+    match w {
+        Written::Bytes(_) => accept(),
+        Written::Refused(number) => Answer { number, place: 0 },
+    }
+}
+
+fn bytes_written(w: Written, before: u64) -> u64
+    ensures { λ n. ⌜ n ≡ writeAfter w before ⌝ }
+{
+    match w {
+        Written::Bytes(n) => n as u64,
+        Written::Refused(_) => before,
+    }
+}
+
+// Writes a report to the front of `bytes` and puts how many bytes it took into `count`. P is 0 or 1. A refusal leaves
+// both as they were.
+#[no_mangle]
+pub extern "C" fn prunepocket_write_report(
+    sender: u32,
+    payload_type: u32,
+    p: u32,
+    group: u32,
+    media: u32,
+    received: u64,
+    rtp: u32,
+    presented: u32,
+    bytes: &mut [u8],
+    count: &mut u64,
+) -> Answer
+    ensures { λ a. ⌜ Wrote (reportIsOut p (reportOf sender «payload_type» p group media received rtp presented)) (reportWords (reportOf sender «payload_type» p group media received rtp presented)) (now (bytes .entry)) (now (count .entry)) a (now (bytes .exit)) (now (count .exit)) ⌝ }
+{
+    if 127 < payload_type {
+        return Answer {
+            number: OUT_OF_RANGE,
+            place: 0,
+        };
+    }
+    if 1 < p {
+        return Answer {
+            number: OUT_OF_RANGE,
+            place: 0,
+        };
+    }
+    let r = Report {
+        sender,
+        payload_type: payload_type as u8,
+        p: p == 1,
+        group,
+        media,
+        received,
+        rtp,
+        presented,
+    };
+    let w = writer::write_report(r, bytes);
+    *count = bytes_written(w, *count);
+    answer_write(w)
+}
+
+// Writes settings to the front of `bytes` and puts how many bytes they took into `count`. A refusal leaves both as they
+// were.
+#[no_mangle]
+pub extern "C" fn prunepocket_write_settings(
+    sender: u32,
+    group: u32,
+    media: u32,
+    received: u64,
+    rtp: u32,
+    presented: u64,
+    bytes: &mut [u8],
+    count: &mut u64,
+) -> Answer
+    ensures { λ a. ⌜ Wrote (settingsAreUnwritable (settingsOf sender group media received rtp presented)) (settingsWords (settingsOf sender group media received rtp presented)) (now (bytes .entry)) (now (count .entry)) a (now (bytes .exit)) (now (count .exit)) ⌝ }
+{
+    let s = Settings {
+        sender,
+        media,
+        group,
+        received,
+        rtp,
+        presented,
+    };
+    let w = writer::write_settings(s, bytes);
+    *count = bytes_written(w, *count);
+    answer_write(w)
 }

@@ -9,6 +9,7 @@ ghost use Rattle.rtcp.specs.Puts.{puts};
 ghost use Rattle.writer.specs.Messages.{bytes32, reportWords, settingsWords, reportIsUnwritable, settingsAreUnwritable, written, buffer};
 
 const SHORT_BUFFER: u64 = 10;
+
 const OUT_OF_RANGE: u64 = 11;
 
 // What a writer answers: how many bytes it wrote, or the number of its refusal.
@@ -96,9 +97,7 @@ fn is_unwritable(r: Report) -> bool
 
 // Writes an XR packet of 40 bytes with one report block, or refuses with 11, then 10, and writes nothing.
 pub fn write_report(r: Report, buf: &mut [u8]) -> Written
-    ensures {
-        λ w. ⌜ (w ≡ written (reportIsUnwritable r) (reportWords r) (now (buf .entry))) × (now (buf .exit) ≡ buffer (reportIsUnwritable r) (reportWords r) (now (buf .entry))) ⌝
-    }
+    ensures { λ w. ⌜ (w ≡ written (reportIsUnwritable r) (reportWords r) (now (buf .entry))) × (now (buf .exit) ≡ buffer (reportIsUnwritable r) (reportWords r) (now (buf .entry))) ⌝ }
 {
     if is_unwritable(r) {
         return Written::Refused(OUT_OF_RANGE);
@@ -113,9 +112,7 @@ pub fn write_report(r: Report, buf: &mut [u8]) -> Written
 
 // Writes a settings packet of 36 bytes, or refuses with 11, then 10, and writes nothing.
 pub fn write_settings(s: Settings, buf: &mut [u8]) -> Written
-    ensures {
-        λ w. ⌜ (w ≡ written (settingsAreUnwritable s) (settingsWords s) (now (buf .entry))) × (now (buf .exit) ≡ buffer (settingsAreUnwritable s) (settingsWords s) (now (buf .entry))) ⌝
-    }
+    ensures { λ w. ⌜ (w ≡ written (settingsAreUnwritable s) (settingsWords s) (now (buf .entry))) × (now (buf .exit) ≡ buffer (settingsAreUnwritable s) (settingsWords s) (now (buf .entry))) ⌝ }
 {
     if s.group == 4294967295 {
         return Written::Refused(OUT_OF_RANGE);

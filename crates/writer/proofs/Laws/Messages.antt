@@ -57,6 +57,6 @@ pub writable-payload : (r : Report) → reportIsUnwritable r ≡ false → r .«
 unfolding reportIsUnwritable
 writable-payload r h =
     let rest : _ =
-        or-false (ltb 127 (r .«payload_type») || eqb (r .group) 4294967295) (not (r .p) && not (eqb (r .presented) 0)) h in
+    or-false (ltb 127 (r .«payload_type») || eqb (r .group) 4294967295) (not (r .p) && not (eqb (r .presented) 0)) h in
     let both : _ = or-false (ltb 127 (r .«payload_type»)) (eqb (r .group) 4294967295) (rest .0) in
     omega (arith, ltb-false 127 (r .«payload_type») (both .0))

@@ -1,0 +1,42 @@
+-- Laws of a call that writes, by what was checked before the writer was called.
+use Prim.Native.Nat.{ℕ, _<_, _≤_}
+use mathlib.Core.Path.{_≡_, refl, sym, ap, _∙_}
+use mathlib.Core.List.{List}
+use mathlib.Core.Bool.{Bool, true, false, not, _&&_, _||_}
+use lib.Dec.{ltb, eqb}
+use borrow.Author.Tests.{lt-ltb, le-ltb}
+use Rattle.idms.specs.declared.Report.{Report}
+use Rattle.writer.specs.declared.Written.{Written}
+use Rattle.writer.specs.Messages.{reportIsUnwritable, written, buffer}
+use Rattle.prunepocket.specs.declared.Answer.{Answer}
+use Rattle.prunepocket.specs.Messages.{reportIsOut, writeAnswer, writeAfter, Wrote}
+
+pub out-by-payload : (p : ℕ) (r : Report) → 127 < r .«payload_type» → reportIsOut p r ≡ true
+unfolding reportIsUnwritable
+out-by-payload p r h = rw (lt-ltb 127 (r .«payload_type») h) (either (ltb 1 p))
+  where
+    either : (t : Bool) → (t || true) ≡ true
+    either true = refl
+    either false = refl
+
+pub out-by-p : (p : ℕ) (r : Report) → 1 < p → reportIsOut p r ≡ true
+out-by-p p r h = rw (lt-ltb 1 p h)
+
+pub out-by-fields : (p : ℕ) (r : Report) → p ≤ 1 → reportIsOut p r ≡ reportIsUnwritable r
+out-by-fields p r h = rw (le-ltb 1 p h)
+
+module _ (unwritable : Bool) (words buf : List ℕ) (count : ℕ) where
+  pub wrote-nothing : unwritable ≡ true → Wrote unwritable words buf count (record { number = 11; place = 0 }) buf count
+  wrote-nothing e = record { answers = rw e; bytes = rw e; counts = rw e }
+
+  pub wrote :
+      (w : Written) (answer : Answer) (buf′ : List ℕ) (count′ : ℕ)
+      → (w ≡ written unwritable words buf) × (buf′ ≡ buffer unwritable words buf)
+      → answer ≡ writeAnswer w → count′ ≡ writeAfter w count
+      → Wrote unwritable words buf count answer buf′ count′
+  wrote w answer buf′ count′ e a n =
+      record {
+        answers = a ∙ ap writeAnswer (e .0);
+        bytes = e .1;
+        counts = n ∙ ap (λ (x : Written). writeAfter x count) (e .0);
+      }

@@ -1,0 +1,47 @@
+-- The fields that cross from C as plain numbers, a writer's answer, and the memory of its byte count afterwards.
+use Prim.Native.Nat.{ℕ}
+use mathlib.Core.Path.{_≡_}
+use mathlib.Core.List.{List}
+use mathlib.Core.Bool.{Bool, _||_}
+use lib.Dec.{ltb, eqb}
+use Rattle.idms.specs.declared.Report.{Report}
+use Rattle.idms.specs.declared.Settings.{Settings}
+use Rattle.writer.specs.declared.Written.{Written}
+use Rattle.writer.specs.Messages.{reportIsUnwritable, written, buffer}
+use Rattle.prunepocket.specs.declared.Answer.{Answer}
+use Rattle.prunepocket.specs.Answers.{accepted}
+
+abbrev pub reportOf : ℕ → ℕ → ℕ → ℕ → ℕ → ℕ → ℕ → ℕ → Report
+reportOf sender type p group media received rtp presented =
+    record {
+      sender = sender;
+      «payload_type» = type;
+      p = eqb p 1;
+      group = group;
+      media = media;
+      received = received;
+      rtp = rtp;
+      presented = presented;
+    }
+
+abbrev pub settingsOf : ℕ → ℕ → ℕ → ℕ → ℕ → ℕ → Settings
+settingsOf sender group media received rtp presented =
+    record { sender = sender; media = media; group = group; received = received; rtp = rtp; presented = presented }
+
+-- refusal 11: P is no bit, or a field is out of range
+abbrev pub reportIsOut : ℕ → Report → Bool
+reportIsOut p r = ltb 1 p || reportIsUnwritable r
+
+abbrev pub writeAnswer : Written → Answer
+writeAnswer (Written.Bytes n) = accepted
+writeAnswer (Written.Refused number) = record { number = number; place = 0 }
+
+abbrev pub writeAfter : Written → ℕ → ℕ
+writeAfter (Written.Bytes n) before = n
+writeAfter (Written.Refused number) before = before
+
+-- What a call that writes has done: its answer, the buffer afterwards, and the count's memory afterwards.
+pub record Wrote (unwritable : Bool) (words buf : List ℕ) (count : ℕ) (answer : Answer) (buf′ : List ℕ) (count′ : ℕ) : Type 0 where
+  pub answers : answer ≡ writeAnswer (written unwritable words buf)
+  pub bytes : buf′ ≡ buffer unwritable words buf
+  pub counts : count′ ≡ writeAfter (written unwritable words buf) count
