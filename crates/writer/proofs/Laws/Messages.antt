@@ -8,7 +8,7 @@ use lib.Seq.{paste, sets, sets-eq}
 use native.Mathlib.Numerals.{add-one, add-two, add-three}
 use native.Mathlib.Omega.{arith}
 use lib.Dec.{ltb, eqb}
-use borrow.Author.Tests.{lt-ltb, le-ltb, ltb-false}
+use borrow.Author.Tests.{lt-ltb, le-ltb, ltb-false, eqb-true, not-false}
 use mir.Val.{boolByte}
 use Rattle.idms.specs.declared.Report.{Report}
 use Rattle.rtcp.specs.Puts.{puts}
@@ -52,11 +52,27 @@ module _ (unwritable : Bool) (words buf : List ℕ) where
     message-written h =
         rw (e, le-ltb (length buf) (4 * length words) h) (refl, puts-front bytes32 4 length-bytes32 words buf h)
 
--- refusal 11 keeps the payload type within its 7 bits
-pub writable-payload : (r : Report) → reportIsUnwritable r ≡ false → r .«payload_type» < 128
+-- ---- reportIsUnwritable
+
+pub record Writable (r : Report) : Type 0 where
+  pub payload : r .«payload_type» < 128
+  pub group : eqb (r .group) 4294967295 ≡ false
+  pub presented : (not (r .p) && not (eqb (r .presented) 0)) ≡ false
+
+pub writable : (r : Report) → reportIsUnwritable r ≡ false → Writable r
 unfolding reportIsUnwritable
-writable-payload r h =
+writable r h =
     let rest : _ =
-    or-false (ltb 127 (r .«payload_type») || eqb (r .group) 4294967295) (not (r .p) && not (eqb (r .presented) 0)) h in
+        or-false (ltb 127 (r .«payload_type») || eqb (r .group) 4294967295) (not (r .p) && not (eqb (r .presented) 0)) h in
     let both : _ = or-false (ltb 127 (r .«payload_type»)) (eqb (r .group) 4294967295) (rest .0) in
-    omega (arith, ltb-false 127 (r .«payload_type») (both .0))
+    record {
+      payload = omega (arith, ltb-false 127 (r .«payload_type») (both .0));
+      group = both .1;
+      presented = rest .1
+    }
+
+-- where P is 0, presented is 0
+pub writable-presented : (r : Report) → reportIsUnwritable r ≡ false → r .p ≡ false → r .presented ≡ 0
+writable-presented r h e =
+    let known : _ = writable r h .presented in
+    eqb-true (r .presented) 0 (not-false (eqb (r .presented) 0) (rw e at known))

@@ -1,4 +1,4 @@
-use Rattle.writer.proofs.Laws.Messages.{message-refused, message-short, message-written, writable-payload}
+use Rattle.writer.proofs.Laws.Messages.{message-refused, message-short, message-written, writable}
 use Rattle.writer.specs.Messages.{bytes32, reportIsUnwritable, reportWords}
 use Rattle.rtcp.specs.Puts.{puts}
 use mathlib.Core.List.{List}
@@ -27,7 +27,7 @@ returns-2 c = message-short (reportIsUnwritable (c .before .before .before .befo
 
 -- src/lib.rt:109:17
 words-of-report-requires : tie.Need-words-of-report-requires
-words-of-report-requires c κs = writable-payload (c .before .before .before .before .args .r) (sym (c .before .before .is-unwritable .ensures) ∙ c .before .if1 .left)
+words-of-report-requires c κs = writable (c .before .before .before .before .args .r) (sym (c .before .before .is-unwritable .ensures) ∙ c .before .if1 .left) .payload
 
 -- src/lib.rt:110:20
 slice-aggregate-put-words : tie.Need-slice-aggregate-put-words

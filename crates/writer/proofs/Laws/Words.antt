@@ -1,0 +1,76 @@
+-- Words and their bytes: four bytes spell the word that they are of, and the other way round.
+use Prim.Native.Nat.{ℕ, suc, _+_, _*_, _/_, _%_, _^_, _≤_, _<_}
+use mathlib.Core.Path.{_≡_, refl, sym, ap, _∙_}
+use mathlib.Core.List.{List, [], _∷_, _++_}
+use lib.ListN.{length, getD, take, drop}
+use lib.Seq.{drop-cons, take-add, drop-drop}
+use native.Mathlib.Nat.{div-div-eq-div-mul, div-add-mod', mod-eq-of-lt}
+use native.Mathlib.Numerals.{add-one, add-two, add-three}
+use native.Mathlib.Omega.{arith}
+use Rattle.rtcp.specs.Bytes.{byte, joined, be32, be64}
+use Rattle.writer.specs.Messages.{bytes32}
+use Rattle.writer.specs.RoundTrip.{AreBytes, part}
+
+-- ---- joined of a word's bytes
+
+-- quotients and remainders by 2^8 in turn
+recompose :
+    (n q₁ q₂ q₃ r₀ r₁ r₂ : ℕ) → q₁ * 2 ^ 8 + r₀ ≡ n → q₂ * 2 ^ 8 + r₁ ≡ q₁ → q₃ * 2 ^ 8 + r₂ ≡ q₂ → joined q₃ r₂ r₁ r₀ ≡ n
+recompose n q₁ q₂ q₃ r₀ r₁ r₂ e₁ e₂ e₃ = omega arith
+
+pub joined-bytes32 :
+    (n : ℕ) → n < 2 ^ 32 → joined (n / 2 ^ 24 % 2 ^ 8) (n / 2 ^ 16 % 2 ^ 8) (n / 2 ^ 8 % 2 ^ 8) (n % 2 ^ 8) ≡ n
+joined-bytes32 n h =
+    let top : n / 2 ^ 24 < 2 ^ 8 = omega arith in
+    let two : n / 2 ^ 8 / 2 ^ 8 ≡ n / 2 ^ 16 = div-div-eq-div-mul n (2 ^ 8) (2 ^ 8) in
+    let three : n / 2 ^ 16 / 2 ^ 8 ≡ n / 2 ^ 24 = div-div-eq-div-mul n (2 ^ 16) (2 ^ 8) in
+    rw (mod-eq-of-lt top)
+    (recompose n (n / 2 ^ 8) (n / 2 ^ 16) (n / 2 ^ 24) (n % 2 ^ 8) (n / 2 ^ 8 % 2 ^ 8) (n / 2 ^ 16 % 2 ^ 8)
+    (div-add-mod' n (2 ^ 8))
+    (rw two at (div-add-mod' (n / 2 ^ 8) (2 ^ 8)))
+    (rw three at (div-add-mod' (n / 2 ^ 16) (2 ^ 8))))
+
+-- two words of a long number
+pub joined-halves :
+    (n : ℕ) → n < 2 ^ 64
+    → joined (n / 2 ^ 32 / 2 ^ 24 % 2 ^ 8) (n / 2 ^ 32 / 2 ^ 16 % 2 ^ 8) (n / 2 ^ 32 / 2 ^ 8 % 2 ^ 8) (n / 2 ^ 32 % 2 ^ 8) * 2 ^ 32
+    + joined (n % 2 ^ 32 / 2 ^ 24 % 2 ^ 8) (n % 2 ^ 32 / 2 ^ 16 % 2 ^ 8) (n % 2 ^ 32 / 2 ^ 8 % 2 ^ 8) (n % 2 ^ 32 % 2 ^ 8)
+    ≡ n
+joined-halves n h =
+    let high : _ = joined-bytes32 (n / 2 ^ 32) (omega arith) in
+    let low : _ = joined-bytes32 (n % 2 ^ 32) (omega arith) in
+    rw (high, low) (omega arith)
+
+-- ---- bytes of a word that bytes spell
+
+pub bytes32-joined :
+    (a b c e : ℕ) → a < 2 ^ 8 → b < 2 ^ 8 → c < 2 ^ 8 → e < 2 ^ 8 → bytes32 (joined a b c e) ≡ a ∷ b ∷ c ∷ e ∷ []
+bytes32-joined a b c e ha hb hc he =
+    let first : joined a b c e / 2 ^ 24 % 2 ^ 8 ≡ a = omega arith in
+    let second : joined a b c e / 2 ^ 16 % 2 ^ 8 ≡ b = omega arith in
+    let third : joined a b c e / 2 ^ 8 % 2 ^ 8 ≡ c = omega arith in
+    let fourth : joined a b c e % 2 ^ 8 ≡ e = omega arith in
+    cc
+
+-- ---- part
+
+pub part-four :
+    (d : List ℕ) (at : ℕ) → at + 4 ≤ length d
+    → part d at 4 ≡ byte d at ∷ byte d (at + 1) ∷ byte d (at + 2) ∷ byte d (at + 3) ∷ []
+part-four d at h =
+    rw (drop-cons d at 0 (omega arith),
+      drop-cons d (suc at) 0 (omega arith),
+      drop-cons d (suc (suc at)) 0 (omega arith),
+      drop-cons d (suc (suc (suc at))) 0 (omega arith),
+      add-one at,
+      add-two at,
+      add-three at)
+
+pub part-word : (d : List ℕ) (at : ℕ) → AreBytes d → at + 4 ≤ length d → bytes32 (be32 d at) ≡ part d at 4
+unfolding be32
+part-word d at h l =
+    bytes32-joined (byte d at) (byte d (at + 1)) (byte d (at + 2)) (byte d (at + 3)) (h at) (h (at + 1)) (h (at + 2)) (h (at + 3))
+    ∙ sym (part-four d at l)
+
+pub part-append : (d : List ℕ) (at n m : ℕ) → part d at n ++ part d (at + n) m ≡ part d at (n + m)
+part-append d at n m = ap (λ (r : List ℕ). take n (drop at d) ++ take m r) (sym (drop-drop n at d)) ∙ sym (take-add n m (drop at d))

@@ -1,0 +1,140 @@
+-- Demand 2, first half: what is written reads back as the same fields. The datagram is written out, so that the walk over
+-- it computes; what is left is that four bytes spell their word.
+use Prim.Native.Nat.{ℕ, _+_, _*_, _/_, _%_, _^_, _<_}
+use mathlib.Core.Path.{_≡_, refl, sym, ap, _∙_}
+use mathlib.Core.List.{List, [], _∷_}
+use mathlib.Core.Bool.{Bool, true, false, not, cond, _&&_, _||_}
+use lib.Dec.{ltb, eqb}
+use native.Mathlib.Omega.{arith}
+use borrow.Author.Tests.{eqb-true, not-false}
+use Rattle.idms.specs.declared.Report.{Report}
+use Rattle.idms.specs.declared.Settings.{Settings}
+use Rattle.idms.specs.declared.Item.{Item}
+use Rattle.idms.specs.declared.Placed.{Placed}
+use Rattle.rtcp.specs.declared.walk.Count.{Count}
+use Rattle.rtcp.specs.declared.walk.Found.{Found}
+use Rattle.rtcp.specs.Bytes.{joined, be16, be32, be64}
+use Rattle.rtcp.specs.Walk.{walking, walk}
+use Rattle.rtcp.specs.Packet.{paddingIsBad, content, byType, contentIsShort, headCheck}
+use Rattle.rtcp.specs.Report.{blockCheck, reportAt, blockItems}
+use Rattle.rtcp.specs.Settings.{settingsAt}
+use Rattle.rtcp.specs.Datagram.{packetCheck, packetItems, datagramCheck, datagramItems}
+use Rattle.rtcp.specs.Answers.{countOf, itemOf, pick}
+use Rattle.rtcp.proofs.Laws.Packet.{or-false}
+use Rattle.writer.specs.Messages.{reportWords, settingsWords, reportIsUnwritable}
+use Rattle.writer.specs.RoundTrip.{behindRR, ReportFits, SettingsFit}
+use Rattle.writer.proofs.Laws.Messages.{Writable, writable, writable-presented}
+use Rattle.writer.proofs.Laws.Words.{joined-bytes32, joined-halves}
+
+-- a word as it is read back
+abbrev spelt : ℕ → ℕ
+spelt n = joined (n / 2 ^ 24 % 2 ^ 8) (n / 2 ^ 16 % 2 ^ 8) (n / 2 ^ 8 % 2 ^ 8) (n % 2 ^ 8)
+
+-- ---- the report
+
+-- as the walk reads it, by P
+reportBack : Report → Bool → Report
+reportBack r p =
+    record {
+      sender = spelt (r .sender);
+      «payload_type» = r .«payload_type» * 2 ^ 25 / 2 ^ 24 % 2 ^ 8 / 2;
+      p = p;
+      group = spelt (r .group);
+      media = spelt (r .media);
+      received = spelt (r .received / 2 ^ 32) * 2 ^ 32 + spelt (r .received % 2 ^ 32);
+      rtp = spelt (r .rtp);
+      presented = cond p (spelt (r .presented)) 0
+    }
+
+reportIn : Report → Bool → Report
+reportIn r p =
+    record {
+      sender = r .sender;
+      «payload_type» = r .«payload_type»;
+      p = p;
+      group = r .group;
+      media = r .media;
+      received = r .received;
+      rtp = r .rtp;
+      presented = r .presented
+    }
+
+walk-report :
+    (r : Report) (p : Bool) (ssrc : ℕ)
+    → (countOf (behindRR ssrc (reportWords (reportIn r p))) ≡ Count.Items 1)
+    × (itemOf (behindRR ssrc (reportWords (reportIn r p))) 0
+    ≡ Found.Item (record { place = 16; item = Item.Report (reportBack r p) }))
+unfolding reportIn reportBack countOf itemOf pick datagramCheck datagramItems walk walking packetCheck packetItems headCheck paddingIsBad content byType contentIsShort blockCheck blockItems reportAt be16 be32 be64
+walk-report r true ssrc = (refl, refl)
+walk-report r false ssrc = (refl, refl)
+
+same-report : (r : Report) → ReportFits r → reportIsUnwritable r ≡ false → reportBack r (r .p) ≡ r
+unfolding reportBack
+same-report r fits h =
+    λ i. record {
+      sender = joined-bytes32 (r .sender) (fits .sender) i;
+      «payload_type» = payload i;
+      p = r .p;
+      group = joined-bytes32 (r .group) (fits .group) i;
+      media = joined-bytes32 (r .media) (fits .media) i;
+      received = joined-halves (r .received) (fits .received) i;
+      rtp = joined-bytes32 (r .rtp) (fits .rtp) i;
+      presented = shown (r .p) refl i
+    }
+  where
+    payload : r .«payload_type» * 2 ^ 25 / 2 ^ 24 % 2 ^ 8 / 2 ≡ r .«payload_type»
+    payload = omega (arith, writable r h .payload)
+    shown : (p : Bool) → r .p ≡ p → cond p (spelt (r .presented)) 0 ≡ r .presented
+    shown true e = joined-bytes32 (r .presented) (fits .presented)
+    shown false e = sym (writable-presented r h e)
+
+-- For all fields that may be written, and whatever the RR's sender, the datagram has exactly one item, with these fields.
+pub report-write-read :
+    (r : Report) (ssrc : ℕ) → ReportFits r → reportIsUnwritable r ≡ false
+    → (countOf (behindRR ssrc (reportWords r)) ≡ Count.Items 1)
+    × (itemOf (behindRR ssrc (reportWords r)) 0 ≡ Found.Item (record { place = 16; item = Item.Report r }))
+unfolding reportIn
+report-write-read r ssrc fits h =
+    let walked : _ = walk-report r (r .p) ssrc in
+    (walked .0, walked .1 ∙ ap (λ (x : Report). Found.Item (record { place = 16; item = Item.Report x })) (same-report r fits h))
+
+-- ---- the settings
+
+settingsBack : Settings → Settings
+settingsBack s =
+    record {
+      sender = spelt (s .sender);
+      media = spelt (s .media);
+      group = spelt (s .group);
+      received = spelt (s .received / 2 ^ 32) * 2 ^ 32 + spelt (s .received % 2 ^ 32);
+      rtp = spelt (s .rtp);
+      presented = spelt (s .presented / 2 ^ 32) * 2 ^ 32 + spelt (s .presented % 2 ^ 32)
+    }
+
+walk-settings :
+    (s : Settings) (ssrc : ℕ)
+    → (countOf (behindRR ssrc (settingsWords s)) ≡ Count.Items 1)
+    × (itemOf (behindRR ssrc (settingsWords s)) 0
+    ≡ Found.Item (record { place = 8; item = Item.Settings (settingsBack s) }))
+unfolding settingsBack countOf itemOf pick datagramCheck datagramItems walk walking packetCheck packetItems headCheck paddingIsBad content byType contentIsShort settingsAt be16 be32 be64
+walk-settings s ssrc = (refl, refl)
+
+same-settings : (s : Settings) → SettingsFit s → settingsBack s ≡ s
+unfolding settingsBack
+same-settings s fits =
+    λ i. record {
+      sender = joined-bytes32 (s .sender) (fits .sender) i;
+      media = joined-bytes32 (s .media) (fits .media) i;
+      group = joined-bytes32 (s .group) (fits .group) i;
+      received = joined-halves (s .received) (fits .received) i;
+      rtp = joined-bytes32 (s .rtp) (fits .rtp) i;
+      presented = joined-halves (s .presented) (fits .presented) i
+    }
+
+pub settings-write-read :
+    (s : Settings) (ssrc : ℕ) → SettingsFit s
+    → (countOf (behindRR ssrc (settingsWords s)) ≡ Count.Items 1)
+    × (itemOf (behindRR ssrc (settingsWords s)) 0 ≡ Found.Item (record { place = 8; item = Item.Settings s }))
+settings-write-read s ssrc fits =
+    let walked : _ = walk-settings s ssrc in
+    (walked .0, walked .1 ∙ ap (λ (x : Settings). Found.Item (record { place = 8; item = Item.Settings x })) (same-settings s fits))

@@ -1,0 +1,59 @@
+-- What demand 2 speaks of: a datagram that is judged, the ranges of the fields, and a datagram's own bytes with what is
+-- not written back cleared.
+use Prim.Native.Nat.{ℕ, _+_, _*_, _/_, _%_, _^_, _<_}
+use mathlib.Core.List.{List, [], _∷_, _++_}
+use mathlib.Core.Bool.{cond}
+use lib.ListN.{length, getD, take, drop}
+use Rattle.idms.specs.declared.Report.{Report}
+use Rattle.idms.specs.declared.Settings.{Settings}
+use Rattle.rtcp.specs.Bytes.{byte}
+use Rattle.rtcp.specs.Report.{presents}
+use Rattle.writer.specs.Messages.{bytesOf}
+
+-- a packet read back is judged behind an 8-byte RR with count 0, whatever its sender
+abbrev pub behindRR : ℕ → List ℕ → List ℕ
+behindRR ssrc words = bytesOf (0x80C90001 ∷ ssrc ∷ words)
+
+-- the ranges of the fields' types
+pub record ReportFits (r : Report) : Type 0 where
+  pub sender : r .sender < 2 ^ 32
+  pub payload : r .«payload_type» < 2 ^ 8
+  pub group : r .group < 2 ^ 32
+  pub media : r .media < 2 ^ 32
+  pub received : r .received < 2 ^ 64
+  pub rtp : r .rtp < 2 ^ 32
+  pub presented : r .presented < 2 ^ 32
+
+pub record SettingsFit (s : Settings) : Type 0 where
+  pub sender : s .sender < 2 ^ 32
+  pub group : s .group < 2 ^ 32
+  pub media : s .media < 2 ^ 32
+  pub received : s .received < 2 ^ 64
+  pub rtp : s .rtp < 2 ^ 32
+  pub presented : s .presented < 2 ^ 64
+
+-- a list of bytes
+abbrev pub AreBytes : List ℕ → Type 0
+AreBytes d = (i : ℕ) → byte d i < 2 ^ 8
+
+-- n bytes of a datagram from a place on
+abbrev pub part : List ℕ → ℕ → ℕ → List ℕ
+part d at n = take n (drop at d)
+
+-- A report block's 8 words, with reserved bits 0 (3 beside P, 25 after the payload type), and presented 0 where P is 0.
+abbrev pub clearedReport : List ℕ → ℕ → List ℕ
+clearedReport d at =
+    byte d at
+    ∷ (byte d (at + 1) / 2 ^ 4 * 2 ^ 4 + byte d (at + 1) % 2)
+    ∷ byte d (at + 2)
+    ∷ byte d (at + 3)
+    ∷ (byte d (at + 4) / 2 * 2)
+    ∷ 0
+    ∷ 0
+    ∷ 0
+    ∷ (part d (at + 8) 20
+    ++ cond (presents d at) (part d (at + 28) 4) (0 ∷ 0 ∷ 0 ∷ 0 ∷ []))
+
+-- A settings packet's 36 bytes without padding: version and type as they are, P and the five count bits 0, length 8.
+abbrev pub clearedSettings : List ℕ → ℕ → List ℕ
+clearedSettings d p = (byte d p / 2 ^ 6 * 2 ^ 6) ∷ byte d (p + 1) ∷ 0 ∷ 8 ∷ part d (p + 4) 32
