@@ -43,7 +43,7 @@ reportBack r p =
       media = spelt (r .media);
       received = spelt (r .received / 2 ^ 32) * 2 ^ 32 + spelt (r .received % 2 ^ 32);
       rtp = spelt (r .rtp);
-      presented = cond p (spelt (r .presented)) 0
+      presented = cond p (spelt (r .presented)) 0;
     }
 
 reportIn : Report → Bool → Report
@@ -56,7 +56,7 @@ reportIn r p =
       media = r .media;
       received = r .received;
       rtp = r .rtp;
-      presented = r .presented
+      presented = r .presented;
     }
 
 walk-report :
@@ -79,11 +79,12 @@ same-report r fits h =
       media = joined-bytes32 (r .media) (fits .media) i;
       received = joined-halves (r .received) (fits .received) i;
       rtp = joined-bytes32 (r .rtp) (fits .rtp) i;
-      presented = shown (r .p) refl i
+      presented = shown (r .p) refl i;
     }
   where
     payload : r .«payload_type» * 2 ^ 25 / 2 ^ 24 % 2 ^ 8 / 2 ≡ r .«payload_type»
     payload = omega (arith, writable r h .payload)
+
     shown : (p : Bool) → r .p ≡ p → cond p (spelt (r .presented)) 0 ≡ r .presented
     shown true e = joined-bytes32 (r .presented) (fits .presented)
     shown false e = sym (writable-presented r h e)
@@ -108,7 +109,7 @@ settingsBack s =
       group = spelt (s .group);
       received = spelt (s .received / 2 ^ 32) * 2 ^ 32 + spelt (s .received % 2 ^ 32);
       rtp = spelt (s .rtp);
-      presented = spelt (s .presented / 2 ^ 32) * 2 ^ 32 + spelt (s .presented % 2 ^ 32)
+      presented = spelt (s .presented / 2 ^ 32) * 2 ^ 32 + spelt (s .presented % 2 ^ 32);
     }
 
 walk-settings :
@@ -128,7 +129,7 @@ same-settings s fits =
       group = joined-bytes32 (s .group) (fits .group) i;
       received = joined-halves (s .received) (fits .received) i;
       rtp = joined-bytes32 (s .rtp) (fits .rtp) i;
-      presented = joined-halves (s .presented) (fits .presented) i
+      presented = joined-halves (s .presented) (fits .presented) i;
     }
 
 pub settings-write-read :

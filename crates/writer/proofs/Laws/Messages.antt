@@ -63,12 +63,12 @@ pub writable : (r : Report) → reportIsUnwritable r ≡ false → Writable r
 unfolding reportIsUnwritable
 writable r h =
     let rest : _ =
-        or-false (ltb 127 (r .«payload_type») || eqb (r .group) 4294967295) (not (r .p) && not (eqb (r .presented) 0)) h in
+    or-false (ltb 127 (r .«payload_type») || eqb (r .group) 4294967295) (not (r .p) && not (eqb (r .presented) 0)) h in
     let both : _ = or-false (ltb 127 (r .«payload_type»)) (eqb (r .group) 4294967295) (rest .0) in
     record {
       payload = omega (arith, ltb-false 127 (r .«payload_type») (both .0));
       group = both .1;
-      presented = rest .1
+      presented = rest .1;
     }
 
 -- where P is 0, presented is 0

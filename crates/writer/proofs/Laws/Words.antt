@@ -1,5 +1,5 @@
 -- Words and their bytes: four bytes spell the word that they are of, and the other way round.
-use Prim.Native.Nat.{ℕ, suc, _+_, _*_, _/_, _%_, _^_, _≤_, _<_}
+use Prim.Native.Nat.{ℕ, suc, zero, _+_, _*_, _/_, _%_, _^_, _≤_, _<_}
 use mathlib.Core.Path.{_≡_, refl, sym, ap, _∙_}
 use mathlib.Core.List.{List, [], _∷_, _++_}
 use lib.ListN.{length, getD, take, drop}
@@ -8,6 +8,7 @@ use native.Mathlib.Nat.{div-div-eq-div-mul, div-add-mod', mod-eq-of-lt}
 use native.Mathlib.Numerals.{add-one, add-two, add-three}
 use native.Mathlib.Omega.{arith}
 use Rattle.rtcp.specs.Bytes.{byte, joined, be32, be64}
+use Rattle.rtcp.specs.Puts.{flat}
 use Rattle.writer.specs.Messages.{bytes32}
 use Rattle.writer.specs.RoundTrip.{AreBytes, part}
 
@@ -58,13 +59,15 @@ pub part-four :
     (d : List ℕ) (at : ℕ) → at + 4 ≤ length d
     → part d at 4 ≡ byte d at ∷ byte d (at + 1) ∷ byte d (at + 2) ∷ byte d (at + 3) ∷ []
 part-four d at h =
-    rw (drop-cons d at 0 (omega arith),
+    rw (
+      drop-cons d at 0 (omega arith),
       drop-cons d (suc at) 0 (omega arith),
       drop-cons d (suc (suc at)) 0 (omega arith),
       drop-cons d (suc (suc (suc at))) 0 (omega arith),
       add-one at,
       add-two at,
-      add-three at)
+      add-three at,
+    )
 
 pub part-word : (d : List ℕ) (at : ℕ) → AreBytes d → at + 4 ≤ length d → bytes32 (be32 d at) ≡ part d at 4
 unfolding be32
@@ -74,3 +77,33 @@ part-word d at h l =
 
 pub part-append : (d : List ℕ) (at n m : ℕ) → part d at n ++ part d (at + n) m ≡ part d at (n + m)
 part-append d at n m = ap (λ (r : List ℕ). take n (drop at d) ++ take m r) (sym (drop-drop n at d)) ∙ sym (take-add n m (drop at d))
+
+-- ---- words of a datagram, one behind the other
+
+abbrev pub wordsAt : List ℕ → ℕ → ℕ → List ℕ
+wordsAt d at zero = []
+wordsAt d at (suc n) = be32 d at ∷ wordsAt d (at + 4) n
+
+pub words-part :
+    (d : List ℕ) (at n : ℕ) → AreBytes d → at + 4 * n ≤ length d → flat bytes32 (wordsAt d at n) ≡ part d at (4 * n)
+words-part d at zero h l = refl
+words-part d at (suc n) h l =
+    let four : 4 + 4 * n ≡ 4 * suc n = omega arith in
+    ap (λ (r : List ℕ). r ++ flat bytes32 (wordsAt d (at + 4) n)) (part-word d at h (omega arith))
+    ∙ ap (λ (r : List ℕ). part d at 4 ++ r) (words-part d (at + 4) n h (omega arith))
+    ∙ part-append d at 4 (4 * n)
+    ∙ ap (part d at) four
+
+-- a word is below 2^32
+pub be32-bound : (d : List ℕ) (at : ℕ) → AreBytes d → be32 d at < 2 ^ 32
+unfolding be32
+be32-bound d at h = omega (arith, h at, h (at + 1), h (at + 2), h (at + 3))
+
+-- the two words of a long number
+pub be64-high : (d : List ℕ) (at : ℕ) → AreBytes d → be64 d at / 2 ^ 32 ≡ be32 d at
+unfolding be64
+be64-high d at h = omega (arith, be32-bound d (at + 4) h)
+
+pub be64-low : (d : List ℕ) (at : ℕ) → AreBytes d → be64 d at % 2 ^ 32 ≡ be32 d (at + 4)
+unfolding be64
+be64-low d at h = omega (arith, be32-bound d (at + 4) h)

@@ -1,0 +1,263 @@
+-- Demand 2, second half: what was read writes back as the datagram's own bytes, once reserved bits, padding and an unused
+-- presented time are cleared. Each item comes from a block or packet (Laws/Origins), and word by word its fields spell the
+-- bytes that were there (Laws/Words).
+use Prim.Native.Nat.{ℕ, _+_, _*_, _/_, _%_, _^_, _≤_, _<_}
+use mathlib.Core.Path.{_≡_, refl, sym, ap, ap₂, _∙_}
+use mathlib.Core.List.{List, [], _∷_, _++_}
+use mathlib.Core.Bool.{Bool, true, false, not, cond, _&&_, _||_}
+use lib.ListN.{length, getD, take, drop}
+use lib.Dec.{ltb, eqb}
+use native.Mathlib.Omega.{arith}
+use borrow.Author.Tests.{ltb-true, ltb-false, le-ltb, eqb-true, eqb-false, ne-eqb}
+use Rattle.idms.specs.Rows.{bit}
+use Rattle.idms.specs.declared.Report.{Report}
+use Rattle.idms.specs.declared.Settings.{Settings}
+use Rattle.idms.specs.declared.Item.{Item}
+use Rattle.idms.specs.declared.Placed.{Placed}
+use Rattle.rtcp.specs.declared.walk.Found.{Found}
+use Rattle.rtcp.specs.Refusals.{Check, passed, refused}
+use Rattle.rtcp.specs.Bytes.{byte, be16, be32, be64}
+use Rattle.rtcp.specs.Packet.{version, packetType}
+use Rattle.rtcp.specs.Report.{blockType, blockLength, role, presents, reports, reportAt}
+use Rattle.rtcp.specs.Settings.{settingsAt}
+use Rattle.rtcp.specs.Puts.{flat}
+use Rattle.rtcp.specs.Datagram.{datagramCheck, datagramItems}
+use Rattle.rtcp.specs.Answers.{itemOf, nothing}
+use Rattle.rtcp.proofs.Laws.Blocks.{and-left, and-right}
+use Rattle.rtcp.proofs.Laws.Answers.{item-refused, item-past, item-there}
+use Rattle.writer.specs.Messages.{bytes32, bytesOf, reportWords, settingsWords, reportIsUnwritable, settingsAreUnwritable, buffer}
+use Rattle.writer.specs.RoundTrip.{AreBytes, part, clearedReport, clearedSettings}
+use Rattle.writer.proofs.Laws.Words.{part-word, wordsAt, words-part, be64-high, be64-low}
+use Rattle.writer.proofs.Laws.Origins.{All, all-at, Origin, report, setting, farewell, items-origin}
+
+-- ---- an item that was read is one of the datagram's
+
+origin-of : (d : List ℕ) (index : ℕ) (x : Placed) → itemOf d index ≡ Found.Item x → Origin d x
+origin-of d index x e = go (datagramCheck d) refl (ltb index (length (datagramItems d))) refl
+  where
+    go : (k : Check) → datagramCheck d ≡ k → (t : Bool) → ltb index (length (datagramItems d)) ≡ t → Origin d x
+    go (refused number place) k t b =
+        let other : _ = item-refused d index number place k in
+        let z : _≡_ {A = ℕ} 0 1 = cc in
+        absurd (omega arith)
+    go passed k false b =
+        let other : _ = item-past d index k (ltb-false index (length (datagramItems d)) b) in
+        let z : _≡_ {A = ℕ} 0 1 = cc in
+        absurd (omega arith)
+    go passed k true b =
+        let here : index < length (datagramItems d) = ltb-true index (length (datagramItems d)) b in
+        let there : _ = item-there d index k here in
+        let same : getD (datagramItems d) index nothing ≡ x = cc in
+        rw same at (all-at (Origin d) (datagramItems d) index nothing (items-origin d k) here)
+
+-- ---- the report
+
+module _ (d : List ℕ) (sender at : ℕ) (h : AreBytes d) (r : reports d at ≡ true) (w : blockLength d at ≡ 7) (l : at + 32 ≤ length d) where
+  type-word :
+      bytes32 (0x0C100007 + bit (presents d at) * 2 ^ 16)
+      ≡ byte d at ∷ (byte d (at + 1) / 2 ^ 4 * 2 ^ 4 + byte d (at + 1) % 2) ∷ byte d (at + 2) ∷ byte d (at + 3) ∷ []
+  unfolding be16
+  type-word = go (presents d at) refl
+    where
+      twelve : byte d at ≡ 12
+      twelve = eqb-true (blockType d at) 12 (and-left (eqb (blockType d at) 12) (eqb (role d at) 1) r)
+
+      one : byte d (at + 1) / 2 ^ 4 ≡ 1
+      one = eqb-true (role d at) 1 (and-right (eqb (blockType d at) 12) (eqb (role d at) 1) r)
+
+      high : byte d (at + 2) ≡ 0
+      high = omega (arith, w, h (at + 2), h (at + 2 + 1))
+
+      low : byte d (at + 3) ≡ 7
+      low =
+          let next : at + 3 ≡ at + 2 + 1 = omega arith in
+          let seven : byte d (at + 2 + 1) ≡ 7 = omega (arith, w, h (at + 2), h (at + 2 + 1)) in
+          ap (byte d) next ∙ seven
+
+      go :
+          (p : Bool) → presents d at ≡ p
+          → bytes32 (0x0C100007 + bit p * 2 ^ 16)
+          ≡ byte d at ∷ (byte d (at + 1) / 2 ^ 4 * 2 ^ 4 + byte d (at + 1) % 2) ∷ byte d (at + 2) ∷ byte d (at + 3) ∷ []
+      go true e =
+          let odd : byte d (at + 1) % 2 ≡ 1 = eqb-true (byte d (at + 1) % 2) 1 e in
+          rw (twelve, one, high, low, odd)
+      go false e =
+          let even : byte d (at + 1) % 2 ≡ 0 = omega (arith, eqb-false (byte d (at + 1) % 2) 1 e) in
+          rw (twelve, one, high, low, even)
+
+  payload-word : bytes32 (byte d (at + 4) / 2 * 2 ^ 25) ≡ (byte d (at + 4) / 2 * 2) ∷ 0 ∷ 0 ∷ 0 ∷ []
+  payload-word =
+      let b : byte d (at + 4) < 2 ^ 8 = h (at + 4) in
+      let first : byte d (at + 4) / 2 * 2 ^ 25 / 2 ^ 24 % 2 ^ 8 ≡ byte d (at + 4) / 2 * 2 = omega arith in
+      let second : byte d (at + 4) / 2 * 2 ^ 25 / 2 ^ 16 % 2 ^ 8 ≡ 0 = omega arith in
+      let third : byte d (at + 4) / 2 * 2 ^ 25 / 2 ^ 8 % 2 ^ 8 ≡ 0 = omega arith in
+      let fourth : byte d (at + 4) / 2 * 2 ^ 25 % 2 ^ 8 ≡ 0 = omega arith in
+      λ i. first i ∷ second i ∷ third i ∷ fourth i ∷ []
+
+  -- group, media source, received and RTP: the block's words 2 to 6
+  middle-words :
+      be32 d (at + 8) ∷ be32 d (at + 12) ∷ be64 d (at + 16) / 2 ^ 32 ∷ be64 d (at + 16) % 2 ^ 32 ∷ be32 d (at + 24) ∷ []
+      ≡ wordsAt d (at + 8) 5
+  middle-words =
+      let media : at + 12 ≡ at + 8 + 4 = omega arith in
+      let high : at + 16 ≡ at + 8 + 4 + 4 = omega arith in
+      let low : at + 16 + 4 ≡ at + 8 + 4 + 4 + 4 = omega arith in
+      let rtp : at + 24 ≡ at + 8 + 4 + 4 + 4 + 4 = omega arith in
+      λ i.
+      be32 d (at + 8)
+      ∷ be32 d (media i)
+      ∷ (be64-high d (at + 16) h ∙ ap (be32 d) high) i
+      ∷ (be64-low d (at + 16) h ∙ ap (be32 d) low) i
+      ∷ be32 d (rtp i)
+      ∷ []
+
+  presented-word :
+      bytes32 (cond (presents d at) (be32 d (at + 28)) 0) ≡ cond (presents d at) (part d (at + 28) 4) (0 ∷ 0 ∷ 0 ∷ 0 ∷ [])
+  presented-word = go (presents d at)
+    where
+      go : (p : Bool) → bytes32 (cond p (be32 d (at + 28)) 0) ≡ cond p (part d (at + 28) 4) (0 ∷ 0 ∷ 0 ∷ 0 ∷ [])
+      go true = part-word d (at + 28) h (omega arith)
+      go false = refl
+
+  block-written : drop 8 (bytesOf (reportWords (reportAt d sender at))) ≡ clearedReport d at
+  unfolding reportAt
+  block-written =
+      ap₂ _++_ type-word
+      (ap₂ _++_ payload-word
+      (ap₂ _++_ (ap (flat bytes32) middle-words ∙ words-part d (at + 8) 5 h (omega arith)) presented-word))
+
+-- An item that was read never has a payload type above 127, or P 0 with presented non-zero: of refusal 11 the group alone
+-- is left.
+only-group : (d : List ℕ) (sender at : ℕ) → AreBytes d → reportIsUnwritable (reportAt d sender at) ≡ eqb (reportAt d sender at .group) 4294967295
+unfolding reportAt reportIsUnwritable
+only-group d sender at h =
+    rw (le-ltb 127 (byte d (at + 4) / 2) (omega (arith, h (at + 4)))) (go (presents d at) (eqb (be32 d (at + 8)) 4294967295))
+  where
+    go : (p g : Bool) → (g || (not p && not (eqb (cond p (be32 d (at + 28)) 0) 0))) ≡ g
+    go true true = refl
+    go true false = refl
+    go false true = refl
+    go false false = refl
+
+-- what is known of a report that was read
+record ReadReport (d : List ℕ) (place : ℕ) (r : Report) : Type 0 where
+  block : drop 8 (bytesOf (reportWords r)) ≡ clearedReport d place
+  group : reportIsUnwritable r ≡ eqb (r .group) 4294967295
+
+read-report :
+    (d : List ℕ) (index place : ℕ) (r : Report) → AreBytes d
+    → itemOf d index ≡ Found.Item (record { place = place; item = Item.Report r }) → ReadReport d place r
+read-report d index place r h e = take (origin-of d index _ e) refl
+  where
+    take : {x : Placed} → Origin d x → x ≡ record { place = place; item = Item.Report r } → ReadReport d place r
+    take (report sender at t w l) e =
+        let there : at ≡ place = ap (λ (y : Placed). y .place) e in
+        let items : Item.Report (reportAt d sender at) ≡ Item.Report r = ap (λ (y : Placed). y .item) e in
+        let same : reportAt d sender at ≡ r = cc in
+        record {
+          block =
+              sym (ap (λ (y : Report). drop 8 (bytesOf (reportWords y))) same)
+              ∙ block-written d sender at h t w l
+              ∙ ap (clearedReport d) there;
+          group =
+              sym (ap reportIsUnwritable same)
+              ∙ only-group d sender at h
+              ∙ ap (λ (y : Report). eqb (y .group) 4294967295) same;
+        }
+    take (setting p v t l) e =
+        let items : Item.Settings (settingsAt d p) ≡ Item.Report r = ap (λ (y : Placed). y .item) e in
+        let z : _≡_ {A = ℕ} 0 1 = cc in
+        absurd (omega arith)
+    take (farewell at source) e =
+        let items : Item.Farewell source ≡ Item.Report r = ap (λ (y : Placed). y .item) e in
+        let z : _≡_ {A = ℕ} 0 1 = cc in
+        absurd (omega arith)
+
+-- A report that was read can be written back exactly if its group is not 4,294,967,295.
+pub report-writable :
+    (d : List ℕ) (index place : ℕ) (r : Report) → AreBytes d
+    → itemOf d index ≡ Found.Item (record { place = place; item = Item.Report r })
+    → reportIsUnwritable r ≡ eqb (r .group) 4294967295
+report-writable d index place r h e = read-report d index place r h e .group
+
+-- Then, in every buffer of 40 bytes or more, the written block is the datagram's own 8 words at the item's place, cleared.
+pub report-read-write :
+    (d buf : List ℕ) (index place : ℕ) (r : Report) → AreBytes d
+    → itemOf d index ≡ Found.Item (record { place = place; item = Item.Report r })
+    → (r .group ≡ 4294967295 → ⊥) → 40 ≤ length buf
+    → part (buffer (reportIsUnwritable r) (reportWords r) buf) 8 32 ≡ clearedReport d place
+report-read-write d buf index place r h e g l =
+    let known : ReadReport d place r = read-report d index place r h e in
+    rw (known .group, ne-eqb (r .group) 4294967295 g, le-ltb (length buf) 40 l) (known .block)
+
+-- ---- the settings
+
+module _ (d : List ℕ) (p : ℕ) (h : AreBytes d) (v : version d p ≡ 2) (t : packetType d p ≡ 211) (l : p + 36 ≤ length d) where
+  -- sender, media source, group, received, RTP and presented: the packet's words 1 to 8
+  settings-words :
+      be32 d (p + 4)
+      ∷ be32 d (p + 8)
+      ∷ be32 d (p + 12)
+      ∷ be64 d (p + 16) / 2 ^ 32
+      ∷ be64 d (p + 16) % 2 ^ 32
+      ∷ be32 d (p + 24)
+      ∷ be64 d (p + 28) / 2 ^ 32
+      ∷ be64 d (p + 28) % 2 ^ 32
+      ∷ []
+      ≡ wordsAt d (p + 4) 8
+  settings-words =
+      let media : p + 8 ≡ p + 4 + 4 = omega arith in
+      let group : p + 12 ≡ p + 4 + 4 + 4 = omega arith in
+      let high : p + 16 ≡ p + 4 + 4 + 4 + 4 = omega arith in
+      let low : p + 16 + 4 ≡ p + 4 + 4 + 4 + 4 + 4 = omega arith in
+      let rtp : p + 24 ≡ p + 4 + 4 + 4 + 4 + 4 + 4 = omega arith in
+      let high′ : p + 28 ≡ p + 4 + 4 + 4 + 4 + 4 + 4 + 4 = omega arith in
+      let low′ : p + 28 + 4 ≡ p + 4 + 4 + 4 + 4 + 4 + 4 + 4 + 4 = omega arith in
+      λ i.
+      be32 d (p + 4)
+      ∷ be32 d (media i)
+      ∷ be32 d (group i)
+      ∷ (be64-high d (p + 16) h ∙ ap (be32 d) high) i
+      ∷ (be64-low d (p + 16) h ∙ ap (be32 d) low) i
+      ∷ be32 d (rtp i)
+      ∷ (be64-high d (p + 28) h ∙ ap (be32 d) high′) i
+      ∷ (be64-low d (p + 28) h ∙ ap (be32 d) low′) i
+      ∷ []
+
+  packet-written : bytesOf (settingsWords (settingsAt d p)) ≡ clearedSettings d p
+  unfolding settingsAt
+  packet-written =
+      let first : 128 ≡ byte d p / 2 ^ 6 * 2 ^ 6 = omega arith in
+      λ i.
+      first i
+      ∷ sym t i
+      ∷ 0
+      ∷ 8
+      ∷ (ap (flat bytes32) settings-words ∙ words-part d (p + 4) 8 h (omega arith)) i
+
+-- In every buffer of 36 bytes or more, settings that were read and may be written are the packet's own 36 bytes at the
+-- item's place, cleared.
+pub settings-read-write :
+    (d buf : List ℕ) (index place : ℕ) (s : Settings) → AreBytes d
+    → itemOf d index ≡ Found.Item (record { place = place; item = Item.Settings s })
+    → (s .group ≡ 4294967295 → ⊥) → 36 ≤ length buf
+    → take 36 (buffer (settingsAreUnwritable s) (settingsWords s) buf) ≡ clearedSettings d place
+settings-read-write d buf index place s h e g l =
+    rw (ne-eqb (s .group) 4294967295 g, le-ltb (length buf) 36 l) (found (origin-of d index _ e) refl)
+  where
+    found :
+        {x : Placed} → Origin d x → x ≡ record { place = place; item = Item.Settings s }
+        → bytesOf (settingsWords s) ≡ clearedSettings d place
+    found (setting p v t l) e =
+        let there : p ≡ place = ap (λ (y : Placed). y .place) e in
+        let items : Item.Settings (settingsAt d p) ≡ Item.Settings s = ap (λ (y : Placed). y .item) e in
+        let same : settingsAt d p ≡ s = cc in
+        sym (ap (λ (y : Settings). bytesOf (settingsWords y)) same) ∙ packet-written d p h v t l ∙ ap (clearedSettings d) there
+    found (report sender at t w l) e =
+        let items : Item.Report (reportAt d sender at) ≡ Item.Settings s = ap (λ (y : Placed). y .item) e in
+        let z : _≡_ {A = ℕ} 0 1 = cc in
+        absurd (omega arith)
+    found (farewell at source) e =
+        let items : Item.Farewell source ≡ Item.Settings s = ap (λ (y : Placed). y .item) e in
+        let z : _≡_ {A = ℕ} 0 1 = cc in
+        absurd (omega arith)
