@@ -1,5 +1,5 @@
 /*
- * prunepocket: reads RTCP datagrams for inter-destination media
+ * prunepocket: reads and writes RTCP for inter-destination media
  * synchronization (IDMS, RFC 7272).
  *
  * Link with libprunepocket.a. Every function takes any arguments that C can
@@ -43,7 +43,8 @@ struct prunepocket_refusal {
 #define PRUNEPOCKET_BLOCK_LENGTH 7    /* block type 12 with block length other than 7; the block's place */
 /* There is no number 8. */
 #define PRUNEPOCKET_NO_SUCH_ITEM 9    /* item index not below the item count, or a field that the item does not have; place 0 */
-#define PRUNEPOCKET_SHORT_BUFFER 10   /* lent array too short; place 0 */
+#define PRUNEPOCKET_SHORT_BUFFER 10   /* lent array or buffer too short; place 0 */
+#define PRUNEPOCKET_OUT_OF_RANGE 11   /* a field to be written is out of range; place 0 */
 
 /* ---- Items --------------------------------------------------------------
  *
@@ -95,6 +96,41 @@ struct prunepocket_refusal prunepocket_item_field(const uint8_t *datagram, size_
 struct prunepocket_refusal prunepocket_read_items(const uint8_t *datagram, size_t length,
                                                   uint64_t *rows, size_t rows_length,
                                                   uint64_t *count);
+
+/* ---- Messages -----------------------------------------------------------
+ *
+ * A writer puts a message at the front of a buffer, and how many bytes it took
+ * into *written. Nothing behind these bytes is changed, and after a refusal
+ * nothing at all. Both take group and media source in this order; the messages
+ * themselves hold them in different orders. The host puts an SR or RR, and
+ * SDES, before what was written.
+ */
+#define PRUNEPOCKET_REPORT_BYTES 40
+#define PRUNEPOCKET_SETTINGS_BYTES 36
+
+/*
+ * Writes an XR packet of 40 bytes with one IDMS report block (role 1).
+ * Refusals, in this order: 11 where payload_type is above 127, p is above 1,
+ * p is 0 and presented is not, or group is 4294967295; then 10 where length is
+ * below 40.
+ */
+struct prunepocket_refusal prunepocket_write_report(uint32_t sender, uint32_t payload_type,
+                                                    uint32_t p, uint32_t group,
+                                                    uint32_t media_source, uint64_t received,
+                                                    uint32_t rtp, uint32_t presented,
+                                                    uint8_t *buffer, size_t length,
+                                                    uint64_t *written);
+
+/*
+ * Writes an IDMS settings packet of 36 bytes. Presented 0 means empty.
+ * Refusals, in this order: 11 where group is 4294967295; then 10 where length
+ * is below 36.
+ */
+struct prunepocket_refusal prunepocket_write_settings(uint32_t sender, uint32_t group,
+                                                      uint32_t media_source, uint64_t received,
+                                                      uint32_t rtp, uint64_t presented,
+                                                      uint8_t *buffer, size_t length,
+                                                      uint64_t *written);
 
 #ifdef __cplusplus
 }
