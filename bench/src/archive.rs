@@ -1,5 +1,6 @@
 //! The archive, as include/prunepocket.h declares it.
 
+use crate::messages::{Report, Settings};
 use crate::peer::Refusal;
 
 #[repr(C)]
@@ -17,6 +18,30 @@ extern "C" {
         rows_length: usize,
         count: *mut u64,
     ) -> RawRefusal;
+    fn prunepocket_write_report(
+        sender: u32,
+        payload_type: u32,
+        p: u32,
+        group: u32,
+        media_source: u32,
+        received: u64,
+        rtp: u32,
+        presented: u32,
+        buffer: *mut u8,
+        length: usize,
+        written: *mut u64,
+    ) -> RawRefusal;
+    fn prunepocket_write_settings(
+        sender: u32,
+        group: u32,
+        media_source: u32,
+        received: u64,
+        rtp: u32,
+        presented: u64,
+        buffer: *mut u8,
+        length: usize,
+        written: *mut u64,
+    ) -> RawRefusal;
 }
 
 impl RawRefusal {
@@ -24,6 +49,14 @@ impl RawRefusal {
         match (self.number, self.place) {
             (0, 0) => Ok(count),
             (number, place) => Err(Refusal { number, place }),
+        }
+    }
+
+    /// Of a writer, whose place is always 0.
+    fn writer_answer(self, written: u64) -> Result<u64, u64> {
+        match self.number {
+            0 => Ok(written),
+            number => Err(number),
         }
     }
 }
@@ -50,4 +83,48 @@ pub fn read_items(datagram: &[u8], rows: &mut [u64]) -> Result<u64, Refusal> {
         )
     }
     .answer(count)
+}
+
+/// How many bytes were written, or the refusal's number.
+#[inline(always)]
+pub fn write_report(fields: &Report, buffer: &mut [u8]) -> Result<u64, u64> {
+    let mut written = 0;
+    // SAFETY: as for count_items.
+    unsafe {
+        prunepocket_write_report(
+            fields.sender,
+            fields.payload_type,
+            fields.p,
+            fields.group,
+            fields.media_source,
+            fields.received,
+            fields.rtp,
+            fields.presented,
+            buffer.as_mut_ptr(),
+            buffer.len(),
+            &mut written,
+        )
+    }
+    .writer_answer(written)
+}
+
+/// As write_report.
+#[inline(always)]
+pub fn write_settings(fields: &Settings, buffer: &mut [u8]) -> Result<u64, u64> {
+    let mut written = 0;
+    // SAFETY: as for count_items.
+    unsafe {
+        prunepocket_write_settings(
+            fields.sender,
+            fields.group,
+            fields.media_source,
+            fields.received,
+            fields.rtp,
+            fields.presented,
+            buffer.as_mut_ptr(),
+            buffer.len(),
+            &mut written,
+        )
+    }
+    .writer_answer(written)
 }

@@ -3,7 +3,9 @@
 
 mod archive;
 mod inputs;
+mod messages;
 mod peer;
+mod peer_encoder;
 
 use inputs::{Input, Random};
 use peer::{Refusal, ROW};
@@ -14,8 +16,12 @@ use std::time::{Duration, Instant};
 const ROUND: Duration = Duration::from_millis(8);
 const ROUNDS: usize = 20;
 
-/// Altered copies of each input on which the two have to agree as well.
+/// Altered copies of each input on which the two have to agree as well, and
+/// as many messages for each writer.
 const ALTERED: usize = 20_000;
+
+/// Bytes of the longest buffer that is lent to a writer.
+const BUFFER: usize = 64;
 
 /// Numbers of an array that holds the rows of every datagram.
 const NUMBERS: usize = ROW * 512;
@@ -23,16 +29,37 @@ const NUMBERS: usize = ROW * 512;
 type Count = fn(&[u8]) -> Result<u64, Refusal>;
 type Read = fn(&[u8], &mut [u64]) -> Result<u64, Refusal>;
 
+/// The same writer of the archive and of the peer.
+struct Writers<M> {
+    ours: fn(&M, &mut [u8]) -> Result<u64, u64>,
+    peers: fn(&M, &mut [u8]) -> Result<u64, u64>,
+}
+
+const REPORT_WRITERS: Writers<messages::Report> = Writers {
+    ours: archive::write_report,
+    peers: peer_encoder::write_report,
+};
+
+const SETTINGS_WRITERS: Writers<messages::Settings> = Writers {
+    ours: archive::write_settings,
+    peers: peer_encoder::write_settings,
+};
+
 fn main() {
     let inputs = inputs::inputs();
     for input in &inputs {
         agree_on(input);
     }
-    println!("nanoseconds per datagram, best of {ROUNDS} interleaved rounds");
+    agree_on_messages(REPORT_WRITERS, messages::report);
+    agree_on_messages(SETTINGS_WRITERS, messages::settings_packet);
+    println!("nanoseconds per datagram or message, best of {ROUNDS} interleaved rounds");
     print_inputs("count", &inputs, time_counts);
     print_inputs("all items", &inputs, time_reads);
     print_growth("farewells", inputs::farewells);
     print_growth("four-byte XR blocks", inputs::short_blocks);
+    print_writes_title();
+    print_writes("report", REPORT_WRITERS, &messages::reports());
+    print_writes("settings", SETTINGS_WRITERS, &messages::settings());
 }
 
 /// Panics where the archive and the peer differ on an input, or on copies of
@@ -63,6 +90,20 @@ fn agree(datagram: &[u8]) {
         let answer = archive::read_items(datagram, &mut ours);
         assert_eq!(answer, peer::read_items(datagram, &mut peers));
         assert_eq!(ours, peers, "{datagram:?}");
+    }
+}
+
+/// Panics where the archive and the peer differ on messages and buffers.
+fn agree_on_messages<M>(writers: Writers<M>, make: fn(&mut Random) -> M) {
+    let mut random = Random(0x3611);
+    for _ in 0..ALTERED {
+        let message = make(&mut random);
+        let mut ours = [0xA5; BUFFER];
+        let mut peers = ours;
+        let length = random.below(BUFFER + 1);
+        let answer = (writers.ours)(&message, &mut ours[..length]);
+        assert_eq!(answer, (writers.peers)(&message, &mut peers[..length]));
+        assert_eq!(ours, peers);
     }
 }
 
@@ -119,6 +160,23 @@ fn print_growth(name: &'static str, make: fn(usize) -> Vec<u8>) {
     }
 }
 
+fn print_writes_title() {
+    println!();
+    println!(
+        "{:<32}{:>8}{:>10}{:>10}{:>12}",
+        "write", "bytes", "ours ns", "peer ns", "ours/peer"
+    );
+}
+
+fn print_writes<M>(name: &str, writers: Writers<M>, messages: &[M]) {
+    let bytes = (writers.ours)(&messages[0], &mut [0; BUFFER]).unwrap_or(0);
+    let (ours, peers) = time_writes(writers, messages);
+    println!(
+        "{name:<32}{bytes:>8}{ours:>10.1}{peers:>10.1}{:>12.2}",
+        ours / peers
+    );
+}
+
 fn time_counts(input: &Input) -> (f64, f64) {
     let pass = |count: Count| {
         for datagram in &input.datagrams {
@@ -141,6 +199,23 @@ fn time_reads(input: &Input) -> (f64, f64) {
     let ours = || pass(archive::read_items, &mut rows);
     let peers = || pass(peer::read_items, &mut other_rows);
     interleaved(input.datagrams.len(), ours, peers)
+}
+
+fn time_writes<M>(writers: Writers<M>, messages: &[M]) -> (f64, f64) {
+    let mut buffer = [0; BUFFER];
+    let mut other_buffer = buffer;
+    // Both are hidden once a pass: to hide them anew for each message would
+    // cost more than the message.
+    let pass = |write: fn(&M, &mut [u8]) -> Result<u64, u64>, buffer: &mut [u8]| {
+        let buffer = black_box(buffer);
+        for message in black_box(messages) {
+            let (Ok(number) | Err(number)) = write(message, buffer);
+            black_box(number);
+        }
+    };
+    let ours = || pass(writers.ours, &mut buffer);
+    let peers = || pass(writers.peers, &mut other_buffer);
+    interleaved(messages.len(), ours, peers)
 }
 
 /// Looks at every number of an answer. To hand the whole answer to black_box

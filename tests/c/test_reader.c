@@ -1,51 +1,16 @@
 /*
- * Calls every function of prunepocket.h on datagrams written out word by word, and holds each
- * answer to values taken from the layouts. What a call may not change is filled beforehand and
- * looked at afterwards. Datagrams and arrays are lent at their exact size from the heap, so that
- * valgrind sees any step outside of them.
+ * Calls every reader of prunepocket.h on datagrams written out word by word, and holds each answer
+ * to values taken from the layouts. What a call may not change is filled beforehand and looked at
+ * afterwards. Datagrams and arrays are lent at their exact size from the heap, so that valgrind
+ * sees any step outside of them.
  */
-#include "prunepocket.h"
+#include "check.h"
 
-#include <inttypes.h>
-#include <stdio.h>
-#include <stdlib.h>
 #include <string.h>
-
-/* What lent numbers hold before a call. No field here has this value. */
-#define FILL UINT64_C(0xA5A5A5A5A5A5A5A5)
 
 typedef uint64_t row_t[PRUNEPOCKET_ROW];
 
-/* ---- Checks ---------------------------------------------------------------------------------- */
-
-static unsigned long passed;
-static unsigned long failed;
-
-/* The case under way, and the line that has it. */
-static const char *name;
-static int line;
-
-static void check_equal(const char *what, uint64_t got, uint64_t expected)
-{
-    if (got == expected) {
-        passed++;
-        return;
-    }
-    failed++;
-    printf("%s:%d: %s: %s: got %" PRIu64 ", expected %" PRIu64 "\n", __FILE__, line, name, what,
-           got, expected);
-}
-
-static void check_answer(const char *what, struct prunepocket_refusal got, uint64_t number,
-                         uint64_t place)
-{
-    char text[100];
-
-    snprintf(text, sizeof text, "%s: number", what);
-    check_equal(text, got.number, number);
-    snprintf(text, sizeof text, "%s: place", what);
-    check_equal(text, got.place, place);
-}
+/* ---- Lent memory ----------------------------------------------------------------------------- */
 
 /* The numbers from start to before end are as they were lent. */
 static void check_untouched(const char *what, const uint64_t *numbers, size_t start, size_t end)
@@ -55,20 +20,6 @@ static void check_untouched(const char *what, const uint64_t *numbers, size_t st
     while (i < end && numbers[i] == FILL)
         i++;
     check_equal(what, i < end ? numbers[i] : FILL, FILL);
-}
-
-/* ---- Lent memory ----------------------------------------------------------------------------- */
-
-static void *allocate(size_t bytes)
-{
-    /* An empty array has an address too. */
-    void *memory = malloc(bytes > 0 ? bytes : 1);
-
-    if (memory == NULL) {
-        fputs("C test: out of memory\n", stderr);
-        exit(1);
-    }
-    return memory;
 }
 
 /* The first bytes of some words, each with its most significant byte first. */
@@ -364,16 +315,8 @@ static void test_refusals(void)
 
 int main(void)
 {
-    /* Messages take nothing from the heap, which a faulty call may have overwritten. */
-    static char buffer[BUFSIZ];
-
-    setvbuf(stdout, buffer, _IOLBF, sizeof buffer);
+    start_checks(__FILE__);
     test_items();
     test_refusals();
-    if (failed > 0) {
-        printf("C test: %lu checks failed, %lu passed\n", failed, passed);
-        return 1;
-    }
-    printf("C test: %lu checks passed\n", passed);
-    return 0;
+    return finish_checks();
 }

@@ -38,13 +38,14 @@ fn parse_case(lines: &[&str]) -> Option<Case> {
         .collect();
     Some(Case {
         name: name.strip_prefix("case ")?.to_string(),
-        datagram: parse_datagram(datagram.strip_prefix("datagram")?)?,
+        datagram: parse_bytes(datagram.strip_prefix("datagram")?)?,
         index,
         expected: expected.filter(|lines| !lines.is_empty())?,
     })
 }
 
-fn parse_datagram(text: &str) -> Option<Vec<u8>> {
+/// Hex digits and `repeat N BYTE`, with any spaces between.
+pub fn parse_bytes(text: &str) -> Option<Vec<u8>> {
     let mut bytes = Vec::new();
     let mut words = text.split_whitespace();
     while let Some(word) = words.next() {

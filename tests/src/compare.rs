@@ -8,7 +8,7 @@ use crate::items::{PlacedItem, Refusal, ROW};
 use std::fmt::{Arguments, Debug};
 
 /// What lent memory holds before a call.
-const BEFORE: u64 = 0xB4F0_2E5E_11E1_D0A7;
+pub(crate) const BEFORE: u64 = 0xB4F0_2E5E_11E1_D0A7;
 
 /// Numbers on both sides of a lent array that must stay as before.
 const GUARD: usize = 2 * ROW;
@@ -187,13 +187,22 @@ fn check_field(datagram: &[u8], index: u64, field: u64, expected: Result<u64, Re
     same(call, &value, &expected.unwrap_or(BEFORE))
 }
 
-fn same<T: PartialEq + Debug>(name: Arguments, archive: &T, expected: &T) -> Verdict {
+pub(crate) fn same<T: PartialEq + Debug>(name: Arguments, archive: &T, expected: &T) -> Verdict {
     if archive == expected {
         return Ok(());
     }
     Err(format!(
         "{name}: archive {archive:?}, expected {expected:?}"
     ))
+}
+
+/// The bytes in hex, with a space between words.
+pub fn hex(bytes: &[u8]) -> String {
+    let words: Vec<String> = bytes
+        .chunks(4)
+        .map(|word| word.iter().map(|byte| format!("{byte:02X}")).collect())
+        .collect();
+    words.join(" ")
 }
 
 /// A datagram at any alignment, with noise behind its end, so that reading

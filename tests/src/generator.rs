@@ -1,10 +1,15 @@
 //! A seeded generator of datagrams: valid compounds, mutations of them, and
-//! noise. A valid compound knows the items that were written into it.
+//! noise. A valid compound knows the items that were written into it. For the
+//! writers, messages with fields in and out of range, and lengths of buffers.
 
+use crate::encoder::{Message, ReportFields};
 use crate::items::{Item, PlacedItem, Report, Settings};
 
 /// Used where PRUNEPOCKET_SEED is not set.
 pub const SEED: u64 = 0x7272_3611_3550_0012;
+
+/// Used where PRUNEPOCKET_RUNS is not set.
+pub const RUNS: u64 = 1_000_000;
 
 /// The longest datagram that is read.
 const LONGEST: usize = 2048;
@@ -20,6 +25,21 @@ pub fn seed() -> u64 {
     };
     number.expect("PRUNEPOCKET_SEED is a number")
 }
+
+/// How much this run tries: PRUNEPOCKET_RUNS.
+pub fn runs() -> u64 {
+    match std::env::var("PRUNEPOCKET_RUNS") {
+        Ok(text) => text.parse().expect("PRUNEPOCKET_RUNS is a number"),
+        Err(_) => RUNS,
+    }
+}
+
+/// Numbers at the ends of the fields' ranges and next to them, also where only
+/// 8 bits of a number are looked at.
+const EDGES: [u32; 10] = [0, 1, 2, 127, 128, 255, 256, 1 << 31, u32::MAX - 1, u32::MAX];
+
+/// The longest buffer that is lent to a writer.
+pub const LONGEST_BUFFER: usize = 64;
 
 /// SplitMix64.
 pub struct Rng(u64);
@@ -71,6 +91,18 @@ impl Rng {
             2 => self.below(100) as u32,
             _ => self.word(),
         }
+    }
+
+    /// A number for a writer: any, or often an edge.
+    fn edge(&mut self) -> u32 {
+        match self.chance(40) {
+            true => self.pick(&EDGES),
+            false => self.word(),
+        }
+    }
+
+    fn long_edge(&mut self) -> u64 {
+        u64::from(self.edge()) << 32 | u64::from(self.edge())
     }
 
     fn bytes(&mut self, length: usize) -> Vec<u8> {
@@ -611,6 +643,57 @@ fn plausible_xr(rng: &mut Rng) -> Vec<u8> {
     let length = (packet.len() / 4 - 1) as u16;
     packet[2..4].copy_from_slice(&length.to_be_bytes());
     headed(packet)
+}
+
+/// A report that may be out of range by any of its fields, more often by one
+/// alone than by several.
+pub fn report_message(rng: &mut Rng) -> Message {
+    let p = match rng.below(10) {
+        0 => rng.edge(),
+        1..=4 => 0,
+        _ => 1,
+    };
+    let empty = if p == 0 { 85 } else { 15 };
+    Message::Report(ReportFields {
+        source: rng.edge(),
+        payload_type: match rng.below(10) {
+            0 | 1 => rng.edge(),
+            2 => rng.pick(&[0, 1, 127, 128]),
+            _ => rng.below(128) as u32,
+        },
+        p,
+        group: rng.edge(),
+        media_source: rng.edge(),
+        received: rng.long_edge(),
+        rtp: rng.edge(),
+        presented: match rng.chance(empty) {
+            true => 0,
+            false => rng.edge(),
+        },
+    })
+}
+
+pub fn settings_message(rng: &mut Rng) -> Message {
+    Message::Settings(Settings {
+        source: rng.edge(),
+        group: rng.edge(),
+        media_source: rng.edge(),
+        received: rng.long_edge(),
+        rtp: rng.edge(),
+        presented: match rng.chance(30) {
+            true => 0,
+            false => rng.long_edge(),
+        },
+    })
+}
+
+/// The length of a buffer for a message: any, or often one around its size.
+pub fn buffer_length(rng: &mut Rng, message: &Message) -> usize {
+    let size = message.size();
+    match rng.chance(50) {
+        true => rng.pick(&[size - 1, size, size + 1, LONGEST_BUFFER]),
+        false => rng.between(0, LONGEST_BUFFER),
+    }
 }
 
 #[cfg(test)]

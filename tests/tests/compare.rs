@@ -1,27 +1,20 @@
 //! Compares archive and decoder over a million generated datagrams and prints
 //! what they met.
 
-use prunepocket_tests::compare::{Comparison, Tally};
+use prunepocket_tests::compare::{hex, Comparison, Tally};
 use prunepocket_tests::generator::{self, Rng};
 use std::process::exit;
 use std::time::Instant;
-
-/// Used where PRUNEPOCKET_RUNS is not set.
-const RUNS: u64 = 1_000_000;
 
 /// The refusals that a reader can give; each has to be met.
 const NUMBERS: [usize; 9] = [1, 2, 3, 4, 5, 6, 7, 9, 10];
 
 fn main() {
     let seed = generator::seed();
-    let runs = match std::env::var("PRUNEPOCKET_RUNS") {
-        Ok(text) => text.parse().expect("PRUNEPOCKET_RUNS is a number"),
-        Err(_) => RUNS,
-    };
     let start = Instant::now();
     let mut rng = Rng::new(seed);
     let mut comparison = Comparison::new(seed, None);
-    for run in 0..runs {
+    for run in 0..generator::runs() {
         let datagram = generator::datagram(&mut rng);
         if let Err(difference) = comparison.check(&datagram) {
             report_mismatch(seed, run, &datagram, &difference);
@@ -38,14 +31,7 @@ fn main() {
 
 fn report_mismatch(seed: u64, run: u64, datagram: &[u8], difference: &str) {
     println!("FAILED: datagram {run} of seed {seed:#x}, {difference}");
-    print!("datagram");
-    for word in datagram.chunks(4) {
-        print!(" ");
-        for byte in word {
-            print!("{byte:02X}");
-        }
-    }
-    println!();
+    println!("datagram {}", hex(datagram));
 }
 
 fn print_table(seed: u64, tally: &Tally) {

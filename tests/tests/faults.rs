@@ -1,36 +1,54 @@
-//! Plants each fault in the decoder and asserts that the comparison finds it.
+//! Plants each fault in the decoder and in the encoder, and asserts that the
+//! comparison finds it.
 
 use prunepocket_tests::compare::Comparison;
-use prunepocket_tests::decoder::Fault;
+use prunepocket_tests::compare_writers::WriterComparison;
+use prunepocket_tests::encoder::Message;
 use prunepocket_tests::generator::{self, Rng};
+use prunepocket_tests::{decoder, encoder};
+use std::fmt::Debug;
 use std::process::exit;
 
-/// Each fault has to be found within so many datagrams.
+/// Each fault has to be found within so many datagrams or messages.
 const BOUND: u64 = 20_000;
+
+/// Which datagram or message showed the fault, and how.
+type Found = Option<(u64, String)>;
 
 fn main() {
     let seed = generator::seed();
     let mut missed = false;
     println!();
     println!("planted faults, seed {seed:#x}");
-    for fault in Fault::ALL {
-        let name = format!("{fault:?}");
-        match first_mismatch(seed, fault) {
-            Some((datagrams, difference)) => {
-                println!("{name:<26} found in datagram {datagrams:>5}: {difference}");
-            }
-            None => {
-                println!("{name:<26} FAILED: not found in {BOUND} datagrams");
-                missed = true;
-            }
-        }
+    for fault in decoder::Fault::ALL {
+        missed |= !print_found(fault, "datagram", in_datagrams(seed, fault));
+    }
+    for fault in encoder::Fault::OF_REPORTS {
+        let found = in_messages(seed, fault, generator::report_message);
+        missed |= !print_found(fault, "report", found);
+    }
+    for fault in encoder::Fault::OF_SETTINGS {
+        let found = in_messages(seed, fault, generator::settings_message);
+        missed |= !print_found(fault, "settings", found);
     }
     if missed {
         exit(1);
     }
 }
 
-fn first_mismatch(seed: u64, fault: Fault) -> Option<(u64, String)> {
+/// Whether the fault was found.
+fn print_found(fault: impl Debug, unit: &str, found: Found) -> bool {
+    let name = format!("{fault:?}");
+    match &found {
+        Some((run, difference)) => {
+            println!("{name:<28} found in {unit:<8} {run:>5}: {difference}");
+        }
+        None => println!("{name:<28} FAILED: not found up to {unit} {BOUND}"),
+    }
+    found.is_some()
+}
+
+fn in_datagrams(seed: u64, fault: decoder::Fault) -> Found {
     let mut rng = Rng::new(seed);
     let mut comparison = Comparison::new(seed, Some(fault));
     for run in 1..=BOUND {
@@ -38,6 +56,22 @@ fn first_mismatch(seed: u64, fault: Fault) -> Option<(u64, String)> {
         if let Err(difference) = comparison.check(&datagram) {
             // It is the fault that was found, not an error of the archive.
             let sound = Comparison::new(seed, None).check(&datagram);
+            assert_eq!(sound, Ok(()));
+            return Some((run, difference));
+        }
+    }
+    None
+}
+
+fn in_messages(seed: u64, fault: encoder::Fault, make: fn(&mut Rng) -> Message) -> Found {
+    let mut rng = Rng::new(seed);
+    let mut comparison = WriterComparison::new(seed, Some(fault));
+    for run in 1..=BOUND {
+        let message = make(&mut rng);
+        let length = generator::buffer_length(&mut rng, &message);
+        if let Err(difference) = comparison.check(&message, length) {
+            // As above.
+            let sound = WriterComparison::new(seed, None).check(&message, length);
             assert_eq!(sound, Ok(()));
             return Some((run, difference));
         }

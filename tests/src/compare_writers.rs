@@ -1,0 +1,318 @@
+//! The comparison of the archive's writers with the encoder, message by
+//! message: answers, the whole memory around a lent buffer, the way back
+//! through both readers, and items of a datagram that are written again.
+
+use crate::archive;
+use crate::compare::{hex, same, Verdict, BEFORE};
+use crate::decoder::decode;
+use crate::encoder::{Fault, Message, ReportFields};
+use crate::generator::{Compound, Rng, LONGEST_BUFFER};
+use crate::items::{PlacedItem, Refusal, Settings, ROW};
+
+/// Bytes on both sides of a lent buffer, more than a message has.
+const GUARD: usize = 48;
+
+/// A guard, room for the alignment, the longest buffer, a guard.
+const ARENA: usize = GUARD + 8 + LONGEST_BUFFER + GUARD;
+
+/// The group that no message may have.
+const RESERVED_GROUP: u32 = u32::MAX;
+
+type Row = [u64; ROW];
+
+/// How often each thing was met with one of the writers.
+#[derive(Default)]
+pub struct Tally {
+    pub accepted: u64,
+    pub short_buffer: u64,
+    pub out_of_range: u64,
+    /// Accepted messages that both readers read again.
+    pub read_back: u64,
+    /// Items of a datagram that were written again.
+    pub written_back: u64,
+    /// Items of a datagram that were refused for their group.
+    pub not_written_back: u64,
+}
+
+pub struct WriterComparison {
+    fault: Option<Fault>,
+    rng: Rng,
+    pub reports: Tally,
+    pub settings: Tally,
+}
+
+impl WriterComparison {
+    /// With a planted fault, the encoder is the one that errs.
+    pub fn new(seed: u64, fault: Option<Fault>) -> Self {
+        WriterComparison {
+            fault,
+            rng: Rng::new(!seed),
+            reports: Tally::default(),
+            settings: Tally::default(),
+        }
+    }
+
+    fn tally(&mut self, message: &Message) -> &mut Tally {
+        match message {
+            Message::Report(_) => &mut self.reports,
+            Message::Settings(_) => &mut self.settings,
+        }
+    }
+
+    /// Writes a message into a buffer of a length, and reads it again.
+    pub fn check(&mut self, message: &Message, length: usize) -> Verdict {
+        let answer = self.check_write(message, length)?;
+        let tally = self.tally(message);
+        match answer {
+            Ok(bytes) => {
+                tally.accepted += 1;
+                self.check_read_back(message, &bytes)
+            }
+            Err(10) => {
+                tally.short_buffer += 1;
+                Ok(())
+            }
+            Err(_) => {
+                tally.out_of_range += 1;
+                Ok(())
+            }
+        }
+    }
+
+    /// The bytes that the archive wrote or its refusal's number, which are the
+    /// encoder's.
+    fn check_write(
+        &mut self,
+        message: &Message,
+        length: usize,
+    ) -> Result<Result<Vec<u8>, u64>, String> {
+        let expected = message.encode_with(length, self.fault);
+        let mut lent = Lent::new(&mut self.rng, length);
+        let after = match &expected {
+            Ok(bytes) => lent.with_front(bytes),
+            Err(_) => lent.memory,
+        };
+        let (expected_answer, expected_written) = match &expected {
+            Ok(bytes) => (Ok(bytes.len() as u64), bytes.len() as u64),
+            Err(number) => (Err(Refusal::new(*number, 0)), BEFORE),
+        };
+        let mut written = BEFORE;
+        let answer = archive::write(message, lent.buffer(), &mut written);
+        let call = format_args!("writing into {length} bytes");
+        same(call, &answer, &expected_answer)?;
+        same(call, &written, &expected_written)?;
+        lent.settle(&after)?;
+        Ok(expected)
+    }
+
+    /// Behind an 8-byte RR with count 0, the message is the only item for both
+    /// readers, with the fields that were written.
+    fn check_read_back(&mut self, message: &Message, bytes: &[u8]) -> Verdict {
+        let mut datagram = vec![0x80, 201, 0, 1];
+        datagram.extend(self.rng.word().to_be_bytes());
+        datagram.extend(bytes);
+        let expected = Ok(vec![row_behind_rr(message)]);
+        let decoded = decode(&datagram).map(|items| rows_of(&items));
+        let sides = [("archive", archive_rows(&datagram)), ("decoder", decoded)];
+        for (side, rows) in sides {
+            if rows != expected {
+                return Err(format!("read back: {side} {rows:?}, expected {expected:?}"));
+            }
+        }
+        self.tally(message).read_back += 1;
+        Ok(())
+    }
+
+    /// Writes every report and every settings item of a valid compound again,
+    /// from what the archive read.
+    pub fn check_compound(&mut self, compound: &Compound) -> Verdict {
+        let rows = archive_rows(&compound.bytes);
+        same(
+            format_args!("the items"),
+            &rows,
+            &Ok(rows_of(&compound.items)),
+        )?;
+        for row in rows.unwrap_or_default() {
+            if let Some(message) = message_of(&row) {
+                self.check_written_back(&message, &compound.bytes[row[1] as usize..])?;
+            }
+        }
+        Ok(())
+    }
+
+    /// `own` starts with the item's own bytes. Only the reserved group keeps
+    /// an item from being written.
+    fn check_written_back(&mut self, message: &Message, own: &[u8]) -> Verdict {
+        let length = self.rng.between(message.size(), LONGEST_BUFFER);
+        let answer = self.check_write(message, length)?;
+        if group(message) == RESERVED_GROUP {
+            self.tally(message).not_written_back += 1;
+            return same(format_args!("written back"), &answer, &Err(11));
+        }
+        let (written, own) = match (message, &answer) {
+            (Message::Report(_), Ok(bytes)) => (&bytes[8..40], plain_block(&own[..32])),
+            (Message::Settings(_), Ok(bytes)) => (&bytes[..], plain_settings(&own[..36])),
+            (_, Err(number)) => return Err(format!("written back: refused {number}")),
+        };
+        if written != own {
+            return Err(format!(
+                "written back: archive {}, the datagram has {}",
+                hex(written),
+                hex(&own)
+            ));
+        }
+        self.tally(message).written_back += 1;
+        Ok(())
+    }
+}
+
+fn group(message: &Message) -> u32 {
+    match message {
+        Message::Report(fields) => fields.group,
+        Message::Settings(fields) => fields.group,
+    }
+}
+
+fn rows_of(items: &[PlacedItem]) -> Vec<Row> {
+    items.iter().map(PlacedItem::row).collect()
+}
+
+fn archive_rows(datagram: &[u8]) -> Result<Vec<Row>, Refusal> {
+    let mut count = 0;
+    archive::count_items(datagram, &mut count)?;
+    let mut numbers = vec![0; ROW * count as usize];
+    archive::read_items(datagram, &mut numbers, &mut count)?;
+    let rows = numbers.as_chunks().0;
+    Ok(rows.to_vec())
+}
+
+/// A report's place is that of its block, which the XR header precedes.
+fn row_behind_rr(message: &Message) -> Row {
+    match message {
+        Message::Report(fields) => [
+            1,
+            16,
+            fields.source.into(),
+            fields.group.into(),
+            fields.media_source.into(),
+            fields.received,
+            fields.rtp.into(),
+            fields.presented.into(),
+            fields.payload_type.into(),
+            fields.p.into(),
+        ],
+        Message::Settings(fields) => [
+            2,
+            8,
+            fields.source.into(),
+            fields.group.into(),
+            fields.media_source.into(),
+            fields.received,
+            fields.rtp.into(),
+            fields.presented,
+            0,
+            0,
+        ],
+    }
+}
+
+/// The message of an item's fields; a farewell has none.
+fn message_of(row: &Row) -> Option<Message> {
+    let word = |column: usize| u32::try_from(row[column]).expect("a field of 32 bits");
+    match row[0] {
+        1 => Some(Message::Report(ReportFields {
+            source: word(2),
+            payload_type: word(8),
+            p: word(9),
+            group: word(3),
+            media_source: word(4),
+            received: row[5],
+            rtp: word(6),
+            presented: word(7),
+        })),
+        2 => Some(Message::Settings(Settings {
+            source: word(2),
+            group: word(3),
+            media_source: word(4),
+            received: row[5],
+            rtp: word(6),
+            presented: row[7],
+        })),
+        _ => None,
+    }
+}
+
+/// A report block with reserved bits 0, and presented 0 where P is 0.
+fn plain_block(block: &[u8]) -> Vec<u8> {
+    let mut block = block.to_vec();
+    // The 3 bits between role and P, then the 25 after the payload type.
+    block[1] &= 0xF1;
+    block[4] &= 0xFE;
+    block[5..8].fill(0);
+    if block[1] & 1 == 0 {
+        block[28..].fill(0);
+    }
+    block
+}
+
+/// A settings packet with reserved bits 0, as it is without padding.
+fn plain_settings(packet: &[u8]) -> Vec<u8> {
+    let mut packet = packet.to_vec();
+    packet[0] &= 0xE0;
+    if packet[0] & 0x20 != 0 {
+        packet[0] &= !0x20;
+        packet[2..4].copy_from_slice(&[0, 8]);
+    }
+    packet
+}
+
+/// A buffer at any alignment, with noise in it and around it.
+struct Lent {
+    memory: [u8; ARENA],
+    start: usize,
+    length: usize,
+}
+
+impl Lent {
+    fn new(rng: &mut Rng, length: usize) -> Self {
+        let mut memory = [0; ARENA];
+        for bytes in memory.chunks_exact_mut(8) {
+            bytes.copy_from_slice(&rng.number().to_be_bytes());
+        }
+        let start = GUARD + rng.below(8);
+        Lent {
+            memory,
+            start,
+            length,
+        }
+    }
+
+    fn buffer(&mut self) -> &mut [u8] {
+        &mut self.memory[self.start..self.start + self.length]
+    }
+
+    /// The whole memory, with these bytes at the front of the buffer.
+    fn with_front(&self, bytes: &[u8]) -> [u8; ARENA] {
+        let mut memory = self.memory;
+        memory[self.start..self.start + bytes.len()].copy_from_slice(bytes);
+        memory
+    }
+
+    fn settle(&self, expected: &[u8; ARENA]) -> Verdict {
+        if self.memory == *expected {
+            return Ok(());
+        }
+        let buffer = self.start..self.start + self.length;
+        let (got, expected) = (&self.memory[buffer.clone()], &expected[buffer]);
+        if got == expected {
+            return Err(String::from(
+                "bytes outside of the buffer are not as before",
+            ));
+        }
+        Err(format!(
+            "the buffer: archive {}, expected {}",
+            hex(got),
+            hex(expected)
+        ))
+    }
+}

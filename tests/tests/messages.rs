@@ -1,0 +1,212 @@
+//! The messages of document 01 through the encoder and through the archive,
+//! and the ends of the fields' ranges.
+
+use prunepocket_tests::archive;
+use prunepocket_tests::cases::parse_bytes;
+use prunepocket_tests::decoder::decode;
+use prunepocket_tests::encoder::{self, Message, ReportFields, REPORT_BYTES, SETTINGS_BYTES};
+use prunepocket_tests::items::{Item, Refusal, Settings, ROW};
+
+const P5: &str = "80CF0009 00000014 0C110007 42000000 0000002A 00000007 \
+                  000003E6 00000000 00869520 03E6C000";
+
+const P3: &str = "80D30008 00000001 00000007 0000002A 000003E6 00000000 \
+                  00869520 000003E6 C0000000";
+
+const REPORT: ReportFields = ReportFields {
+    source: 20,
+    payload_type: 33,
+    p: 1,
+    group: 42,
+    media_source: 7,
+    received: 998 << 32,
+    rtp: 8_820_000,
+    presented: 0x03E6_C000,
+};
+
+const SETTINGS: Settings = Settings {
+    source: 1,
+    group: 42,
+    media_source: 7,
+    received: 998 << 32,
+    rtp: 8_820_000,
+    presented: 0x3E6_C000_0000,
+};
+
+/// What lent memory holds before a call.
+const FILL: u8 = 0xA5;
+
+type Memory = [u8; 64];
+
+/// Memory with these bytes at the front, and as before behind them.
+fn memory_with(bytes: &[u8]) -> Memory {
+    let mut memory = [FILL; 64];
+    memory[..bytes.len()].copy_from_slice(bytes);
+    memory
+}
+
+/// Lends the archive the first bytes of memory: how many it wrote, and the
+/// memory, which a refusal leaves as it was.
+fn written(message: Message, length: usize) -> Result<(u64, Memory), Refusal> {
+    let mut memory = memory_with(&[]);
+    let mut written = u64::MAX;
+    match archive::write(&message, &mut memory[..length], &mut written) {
+        Ok(written) => Ok((written, memory)),
+        Err(refusal) => {
+            assert_eq!((written, memory), (u64::MAX, memory_with(&[])));
+            Err(refusal)
+        }
+    }
+}
+
+fn bytes(text: &str) -> Vec<u8> {
+    parse_bytes(text).expect("bytes in hex")
+}
+
+/// Both sides refuse the message with a number.
+fn assert_refused(message: Message, length: usize, number: u64) {
+    assert_eq!(message.encode_with(length, None), Err(number));
+    assert_eq!(written(message, length), Err(Refusal::new(number, 0)));
+}
+
+/// Both sides write the message, which is then the only item behind an RR.
+fn read_back(message: Message) -> Item {
+    let size = message.size();
+    let bytes = message.encode_with(size, None).expect("it may be written");
+    let expected = (size as u64, memory_with(&bytes));
+    assert_eq!(written(message, size), Ok(expected));
+    let datagram = [&[0x80, 201, 0, 1, 0, 0, 0, 99], &bytes[..]].concat();
+    let items = decode(&datagram).expect("the datagram is read");
+    assert_eq!(items.len(), 1);
+    let mut row = [0; ROW];
+    let mut count = 0;
+    assert_eq!(archive::read_items(&datagram, &mut row, &mut count), Ok(()));
+    assert_eq!((count, row), (1, items[0].row()));
+    items[0].item
+}
+
+#[test]
+fn encoder_writes_the_report_of_p5() {
+    let report = encoder::report(&REPORT, REPORT_BYTES);
+    assert_eq!(report.map(Vec::from), Ok(bytes(P5)));
+}
+
+#[test]
+fn archive_writes_the_report_of_p5() {
+    for length in REPORT_BYTES..=64 {
+        let report = written(Message::Report(REPORT), length);
+        assert_eq!(report, Ok((40, memory_with(&bytes(P5)))));
+    }
+}
+
+#[test]
+fn encoder_writes_the_settings_of_p3() {
+    let settings = encoder::settings(&SETTINGS, SETTINGS_BYTES);
+    assert_eq!(settings.map(Vec::from), Ok(bytes(P3)));
+}
+
+#[test]
+fn archive_writes_the_settings_of_p3() {
+    for length in SETTINGS_BYTES..=64 {
+        let settings = written(Message::Settings(SETTINGS), length);
+        assert_eq!(settings, Ok((36, memory_with(&bytes(P3)))));
+    }
+}
+
+#[test]
+fn group_0_may_be_written_and_read() {
+    let report = ReportFields { group: 0, ..REPORT };
+    let Item::Report(read) = read_back(Message::Report(report)) else {
+        panic!("a report was written");
+    };
+    assert_eq!(read.group, 0);
+    let settings = Settings {
+        group: 0,
+        ..SETTINGS
+    };
+    let read = read_back(Message::Settings(settings));
+    assert_eq!(read, Item::Settings(settings));
+}
+
+#[test]
+fn ends_of_the_ranges_may_be_written() {
+    let reports = [
+        ReportFields {
+            payload_type: 0,
+            ..REPORT
+        },
+        ReportFields {
+            payload_type: 127,
+            ..REPORT
+        },
+        ReportFields {
+            group: u32::MAX - 1,
+            ..REPORT
+        },
+        // With P 1, presented 0 is a time like any other.
+        ReportFields {
+            presented: 0,
+            ..REPORT
+        },
+        ReportFields {
+            p: 0,
+            presented: 0,
+            ..REPORT
+        },
+    ];
+    for report in reports {
+        let Item::Report(read) = read_back(Message::Report(report)) else {
+            panic!("a report was written");
+        };
+        assert_eq!(u32::from(read.payload_type), report.payload_type);
+        assert_eq!(read.p, report.p == 1);
+        assert_eq!(read.group, report.group);
+        assert_eq!(read.presented, report.presented);
+    }
+    let settings = Settings {
+        group: u32::MAX - 1,
+        presented: 0,
+        ..SETTINGS
+    };
+    let read = read_back(Message::Settings(settings));
+    assert_eq!(read, Item::Settings(settings));
+}
+
+/// Each cause alone, in buffers that are long enough and too short.
+#[test]
+fn refusal_11_comes_before_10() {
+    let reports = [
+        ReportFields {
+            payload_type: 128,
+            ..REPORT
+        },
+        ReportFields { p: 2, ..REPORT },
+        ReportFields { p: 0, ..REPORT },
+        ReportFields {
+            group: u32::MAX,
+            ..REPORT
+        },
+    ];
+    for length in [REPORT_BYTES, REPORT_BYTES - 1, 0] {
+        for report in reports {
+            assert_refused(Message::Report(report), length, 11);
+        }
+    }
+    let settings = Settings {
+        group: u32::MAX,
+        ..SETTINGS
+    };
+    for length in [SETTINGS_BYTES, SETTINGS_BYTES - 1, 0] {
+        assert_refused(Message::Settings(settings), length, 11);
+    }
+}
+
+#[test]
+fn a_short_buffer_is_refused_with_10() {
+    for length in 0..REPORT_BYTES {
+        assert_refused(Message::Report(REPORT), length, 10);
+    }
+    for length in 0..SETTINGS_BYTES {
+        assert_refused(Message::Settings(SETTINGS), length, 10);
+    }
+}

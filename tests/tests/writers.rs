@@ -1,0 +1,96 @@
+//! Compares the archive's writers with the encoder over a million messages
+//! each, writes the items of generated datagrams again, and prints what was
+//! met.
+
+use prunepocket_tests::compare::{hex, Verdict};
+use prunepocket_tests::compare_writers::{Tally, WriterComparison};
+use prunepocket_tests::encoder::Message;
+use prunepocket_tests::generator::{self, Rng};
+use std::process::exit;
+use std::time::Instant;
+
+fn main() {
+    let seed = generator::seed();
+    let runs = generator::runs();
+    let start = Instant::now();
+    let comparison = match check_all(seed, runs) {
+        Ok(comparison) => comparison,
+        Err(difference) => {
+            println!("FAILED: seed {seed:#x}, {difference}");
+            exit(1);
+        }
+    };
+    println!();
+    println!("archive and encoder, seed {seed:#x}");
+    println!("{runs} messages of each writer, items of {runs} datagrams");
+    print_table(&comparison);
+    println!("no mismatch, {:.1} s", start.elapsed().as_secs_f64());
+    if let Some(name) = unmet(&comparison) {
+        println!("FAILED: {name}: never met");
+        exit(1);
+    }
+}
+
+fn check_all(seed: u64, runs: u64) -> Result<WriterComparison, String> {
+    let mut rng = Rng::new(seed);
+    let mut comparison = WriterComparison::new(seed, None);
+    check_messages(&mut comparison, &mut rng, runs, generator::report_message)?;
+    check_messages(&mut comparison, &mut rng, runs, generator::settings_message)?;
+    check_compounds(&mut comparison, &mut rng, runs)?;
+    Ok(comparison)
+}
+
+fn check_messages(
+    comparison: &mut WriterComparison,
+    rng: &mut Rng,
+    runs: u64,
+    make: fn(&mut Rng) -> Message,
+) -> Verdict {
+    for run in 0..runs {
+        let message = make(rng);
+        let length = generator::buffer_length(rng, &message);
+        comparison
+            .check(&message, length)
+            .map_err(|difference| format!("message {run}, {difference}\n{message:?}"))?;
+    }
+    Ok(())
+}
+
+fn check_compounds(comparison: &mut WriterComparison, rng: &mut Rng, runs: u64) -> Verdict {
+    for run in 0..runs {
+        let compound = generator::valid(rng);
+        comparison.check_compound(&compound).map_err(|difference| {
+            let datagram = hex(&compound.bytes);
+            format!("datagram {run}, {difference}\ndatagram {datagram}")
+        })?;
+    }
+    Ok(())
+}
+
+/// The lines of the table; every one has to be met by both writers.
+fn lines(tally: &Tally) -> [(&'static str, u64); 6] {
+    [
+        ("accepted", tally.accepted),
+        ("refused 10", tally.short_buffer),
+        ("refused 11", tally.out_of_range),
+        ("read back", tally.read_back),
+        ("items written back", tally.written_back),
+        ("items not written back (11)", tally.not_written_back),
+    ]
+}
+
+fn print_table(comparison: &WriterComparison) {
+    println!("{:<32}{:>12}{:>12}", "", "report", "settings");
+    let settings = lines(&comparison.settings);
+    for ((name, reports), (_, settings)) in lines(&comparison.reports).into_iter().zip(settings) {
+        println!("{name:<32}{reports:>12}{settings:>12}");
+    }
+}
+
+fn unmet(comparison: &WriterComparison) -> Option<&'static str> {
+    let both = [&comparison.reports, &comparison.settings];
+    both.into_iter()
+        .flat_map(lines)
+        .find(|(_, times)| *times == 0)
+        .map(|(name, _)| name)
+}
