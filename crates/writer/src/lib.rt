@@ -99,10 +99,12 @@ fn is_unwritable(r: Report) -> bool
 pub fn write_report(r: Report, buf: &mut [u8]) -> Written
     ensures { λ w. ⌜ (w ≡ written (reportIsUnwritable r) (reportWords r) (now (buf .entry))) × (now (buf .exit) ≡ buffer (reportIsUnwritable r) (reportWords r) (now (buf .entry))) ⌝ }
 {
-    if is_unwritable(r) {
+    let out = is_unwritable(r);
+    let short = buf.len() < 40;
+    if out {
         return Written::Refused(OUT_OF_RANGE);
     }
-    if buf.len() < 40 {
+    if short {
         return Written::Refused(SHORT_BUFFER);
     }
     let words = words_of_report(r);
