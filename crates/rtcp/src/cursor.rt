@@ -23,8 +23,12 @@ ghost use Rattle.rtcp.specs.Datagram.{datagramCheck, datagramItems};
 ghost use Rattle.rtcp.specs.Cursor.{readable, entered, advance, torn, nextOf};
 ghost use Rattle.rtcp.specs.Answers.{nothing, openedOf};
 
-// Where a walk over a datagram stands.
-pub enum Cursor {
+// Where a walk over a datagram stands. Only `open_datagram` and `next_item` make one.
+pub struct Cursor {
+    state: State,
+}
+
+pub(crate) enum State {
     // Before the packet at a place.
     Packet(usize),
     // Among the sources of a BYE packet: the next one, where they stop, and the packet behind.
@@ -47,8 +51,8 @@ pub enum Step {
 
 // One step of a cursor: past an item, past something that gives none, or to the end.
 pub(crate) enum Advance {
-    Item(Placed, Cursor),
-    Onward(Cursor),
+    Item(Placed, State),
+    Onward(State),
     End,
 }
 
@@ -80,22 +84,22 @@ fn enter(d: &[u8], p: usize, h: Head) -> Advance
     let kind = h.kind;
     let next = p + h.bytes;
     match kind {
-        203 => Advance::Onward(Cursor::Sources(p + 4, p + (4 + 4 * h.count), next)),
-        207 => { Advance::Onward(Cursor::Blocks(read32(d, p + 4), p + 8, p + h.content, next)) }
+        203 => Advance::Onward(State::Sources(p + 4, p + (4 + 4 * h.count), next)),
+        207 => { Advance::Onward(State::Blocks(read32(d, p + 4), p + 8, p + h.content, next)) }
         211 => Advance::Item(
             Placed {
                 place: p,
                 item: Item::Settings(settings_at(d, p)),
             },
-            Cursor::Packet(next),
+            State::Packet(next),
         ),
-        0..=202 | 204..=206 | 208..=210 | 212..=255 => Advance::Onward(Cursor::Packet(next)),
+        0..=202 | 204..=206 | 208..=210 | 212..=255 => Advance::Onward(State::Packet(next)),
     }
 }
 
 // A step at a packet.
 fn at_packet(d: &[u8], p: usize) -> Advance
-    ensures { λ r. ⌜ r ≡ advance (now (d .entry)) (Cursor.Packet p) ⌝ }
+    ensures { λ r. ⌜ r ≡ advance (now (d .entry)) (State.Packet p) ⌝ }
 {
     if minus(d.len(), p) < 4 {
         return Advance::End;
@@ -113,10 +117,10 @@ fn at_packet(d: &[u8], p: usize) -> Advance
 
 // A step at a source.
 fn at_source(d: &[u8], at: usize, stop: usize, next: usize) -> Advance
-    ensures { λ r. ⌜ r ≡ advance (now (d .entry)) (Cursor.Sources at stop next) ⌝ }
+    ensures { λ r. ⌜ r ≡ advance (now (d .entry)) (State.Sources at stop next) ⌝ }
 {
     if stop <= at {
-        return Advance::Onward(Cursor::Packet(next));
+        return Advance::Onward(State::Packet(next));
     }
     if is_torn(d, at, stop) {
         return Advance::End;
@@ -126,25 +130,25 @@ fn at_source(d: &[u8], at: usize, stop: usize, next: usize) -> Advance
             place: at,
             item: Item::Farewell(read32(d, at)),
         },
-        Cursor::Sources(at + 4, stop, next),
+        State::Sources(at + 4, stop, next),
     )
 }
 
 // A step at a block.
 fn at_block(d: &[u8], sender: u32, at: usize, stop: usize, next: usize) -> Advance
-    ensures { λ r. ⌜ r ≡ advance (now (d .entry)) (Cursor.Blocks sender at stop next) ⌝ }
+    ensures { λ r. ⌜ r ≡ advance (now (d .entry)) (State.Blocks sender at stop next) ⌝ }
 {
     if stop <= at {
-        return Advance::Onward(Cursor::Packet(next));
+        return Advance::Onward(State::Packet(next));
     }
     if is_torn(d, at, stop) {
         return Advance::End;
     }
     match block_at(d, at, stop) {
         Block::Refused(_) => Advance::End,
-        Block::Other(bytes) => Advance::Onward(Cursor::Blocks(sender, at + bytes, stop, next)),
+        Block::Other(bytes) => Advance::Onward(State::Blocks(sender, at + bytes, stop, next)),
         Block::Idms(items) => {
-            let behind = Cursor::Blocks(sender, at + 32, stop, next);
+            let behind = State::Blocks(sender, at + 32, stop, next);
             if items == 0 {
                 return Advance::Onward(behind);
             }
@@ -160,13 +164,13 @@ fn at_block(d: &[u8], sender: u32, at: usize, stop: usize, next: usize) -> Advan
 }
 
 // One step of a cursor.
-fn stepped(d: &[u8], c: Cursor) -> Advance
+fn stepped(d: &[u8], c: State) -> Advance
     ensures { λ r. ⌜ r ≡ advance (now (d .entry)) c ⌝ }
 {
     match c {
-        Cursor::Packet(p) => at_packet(d, p),
-        Cursor::Sources(at, stop, next) => at_source(d, at, stop, next),
-        Cursor::Blocks(sender, at, stop, next) => at_block(d, sender, at, stop, next),
+        State::Packet(p) => at_packet(d, p),
+        State::Sources(at, stop, next) => at_source(d, at, stop, next),
+        State::Blocks(sender, at, stop, next) => at_block(d, sender, at, stop, next),
     }
 }
 
@@ -174,11 +178,11 @@ fn stepped(d: &[u8], c: Cursor) -> Advance
 pub fn next_item(d: &[u8], from: Cursor) -> Step
     ensures { λ r. ⌜ r ≡ nextOf (now (d .entry)) from ⌝ }
 {
-    let mut c = from;
+    let mut c = from.state;
     loop {
         match stepped(d, c) {
             Advance::Item(x, next) => {
-                return Step::Item(x, next);
+                return Step::Item(x, Cursor { state: next });
             }
             Advance::Onward(next) => {
                 c = next;
@@ -196,7 +200,12 @@ pub fn open_datagram(d: &[u8]) -> Opened
 {
     match count_items(d) {
         Count::Refused(r) => Opened::Refused(r),
-        Count::Items(n) => Opened::Items(n, Cursor::Packet(0)),
+        Count::Items(n) => Opened::Items(
+            n,
+            Cursor {
+                state: State::Packet(0),
+            },
+        ),
     }
 }
 
@@ -205,7 +214,9 @@ pub(crate) fn nth_item(d: &[u8], index: usize) -> Placed
     requires { ⌜ (datagramCheck (now d) ≡ passed) × (index < length (datagramItems (now d))) ⌝ }
     ensures { λ r. ⌜ r ≡ getD (datagramItems (now (d .entry))) index nothing ⌝ }
 {
-    let mut c = Cursor::Packet(0);
+    let mut c = Cursor {
+        state: State::Packet(0),
+    };
     let mut left = index;
     loop {
         match next_item(d, c) {

@@ -8,7 +8,7 @@ use lib.Dec.{ltb, leb}
 use native.Mathlib.Omega.{arith}
 use borrow.Author.Tests.{lt-ltb, le-ltb, le-leb, lt-leb, ltb-false, leb-true, not-true}
 use Rattle.idms.specs.declared.Item.{Item}
-use Rattle.rtcp.specs.declared.cursor.Cursor.{Cursor}
+use Rattle.rtcp.specs.declared.cursor.State.{State}
 use Rattle.rtcp.specs.declared.cursor.Advance.{Advance}
 use Rattle.rtcp.specs.Refusals.{Check, passed, refused}
 use Rattle.rtcp.specs.Bytes.{be32}
@@ -42,15 +42,15 @@ readable-packet d p h =
 -- ---- at a packet
 
 module _ (d : List ℕ) (p : ℕ) where
-  pub packet-torn : length d - p < 4 → advance d (Cursor.Packet p) ≡ Advance.End
+  pub packet-torn : length d - p < 4 → advance d (State.Packet p) ≡ Advance.End
   unfolding advance
   packet-torn h = rw (lt-ltb (length d - p) 4 h)
 
-  pub packet-stops : 4 ≤ length d - p → readable d p ≡ false → advance d (Cursor.Packet p) ≡ Advance.End
+  pub packet-stops : 4 ≤ length d - p → readable d p ≡ false → advance d (State.Packet p) ≡ Advance.End
   unfolding advance
   packet-stops h e = rw (le-ltb (length d - p) 4 h, e)
 
-  pub packet-entered : 4 ≤ length d - p → readable d p ≡ true → advance d (Cursor.Packet p) ≡ entered d p
+  pub packet-entered : 4 ≤ length d - p → readable d p ≡ true → advance d (State.Packet p) ≡ entered d p
   unfolding advance
   packet-entered h e = rw (le-ltb (length d - p) 4 h, e)
 
@@ -72,13 +72,13 @@ module _ (d : List ℕ) (p : ℕ) where
 
   pub entered-bye :
       packetType d p ≡ 203
-      → entered d p ≡ Advance.Onward (Cursor.Sources (p + 4) (p + (4 + 4 * count d p)) (p + size d p))
+      → entered d p ≡ Advance.Onward (State.Sources (p + 4) (p + (4 + 4 * count d p)) (p + size d p))
   unfolding entered
   entered-bye e = byType-bye (packetType d p) _ _ _ _ _ _ e
 
   pub entered-xr :
       packetType d p ≡ 207
-      → entered d p ≡ Advance.Onward (Cursor.Blocks (be32 d (p + 4)) (p + 8) (p + content d p) (p + size d p))
+      → entered d p ≡ Advance.Onward (State.Blocks (be32 d (p + 4)) (p + 8) (p + content d p) (p + size d p))
   unfolding entered
   entered-xr e = byType-xr (packetType d p) _ _ _ _ _ _ e
 
@@ -95,51 +95,51 @@ module _ (d : List ℕ) (p : ℕ) where
 -- ---- at a source
 
 module _ (d : List ℕ) (at stop next : ℕ) where
-  pub sources-behind : stop ≤ at → advance d (Cursor.Sources at stop next) ≡ Advance.Onward (Cursor.Packet next)
+  pub sources-behind : stop ≤ at → advance d (State.Sources at stop next) ≡ Advance.Onward (State.Packet next)
   unfolding advance
   sources-behind h = rw (le-leb stop at h)
 
-  pub sources-torn : at < stop → torn d at stop ≡ true → advance d (Cursor.Sources at stop next) ≡ Advance.End
+  pub sources-torn : at < stop → torn d at stop ≡ true → advance d (State.Sources at stop next) ≡ Advance.End
   unfolding advance
   sources-torn h t = rw (lt-leb stop at h, t)
 
   pub sources-item :
       at < stop → torn d at stop ≡ false
-      → advance d (Cursor.Sources at stop next) ≡ Advance.Item (farewellItem d at) (Cursor.Sources (at + 4) stop next)
+      → advance d (State.Sources at stop next) ≡ Advance.Item (farewellItem d at) (State.Sources (at + 4) stop next)
   unfolding advance
   sources-item h t = rw (lt-leb stop at h, t)
 
 -- ---- at a block
 
 module _ (d : List ℕ) (sender at stop next : ℕ) where
-  pub blocks-behind : stop ≤ at → advance d (Cursor.Blocks sender at stop next) ≡ Advance.Onward (Cursor.Packet next)
+  pub blocks-behind : stop ≤ at → advance d (State.Blocks sender at stop next) ≡ Advance.Onward (State.Packet next)
   unfolding advance
   blocks-behind h = rw (le-leb stop at h)
 
   module _ (h : at < stop) where
-    pub blocks-torn : torn d at stop ≡ true → advance d (Cursor.Blocks sender at stop next) ≡ Advance.End
+    pub blocks-torn : torn d at stop ≡ true → advance d (State.Blocks sender at stop next) ≡ Advance.End
     unfolding advance
     blocks-torn t = rw (lt-leb stop at h, t)
 
     module _ (t : torn d at stop ≡ false) where
       pub blocks-stop :
           (number place : ℕ) → blockCheck d stop at ≡ refused number place
-          → advance d (Cursor.Blocks sender at stop next) ≡ Advance.End
+          → advance d (State.Blocks sender at stop next) ≡ Advance.End
       unfolding advance
       blocks-stop number place e = rw (lt-leb stop at h, t, e)
 
       module _ (e : blockCheck d stop at ≡ passed) where
         pub blocks-pass :
             reports d at ≡ false
-            → advance d (Cursor.Blocks sender at stop next) ≡ Advance.Onward (Cursor.Blocks sender (at + blockSize d at) stop next)
+            → advance d (State.Blocks sender at stop next) ≡ Advance.Onward (State.Blocks sender (at + blockSize d at) stop next)
         unfolding advance
         blocks-pass r = rw (lt-leb stop at h, t, e, items-none d sender at r)
 
         pub blocks-item :
             reports d at ≡ true
-            → advance d (Cursor.Blocks sender at stop next)
+            → advance d (State.Blocks sender at stop next)
             ≡ Advance.Item (record { place = at; item = Item.Report (reportAt d sender at) })
-            (Cursor.Blocks sender (at + blockSize d at) stop next)
+            (State.Blocks sender (at + blockSize d at) stop next)
         unfolding advance
         blocks-item r = rw (lt-leb stop at h, t, e, items-one d sender at r)
 

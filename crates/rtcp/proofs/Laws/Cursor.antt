@@ -9,6 +9,7 @@ use lib.Dec.{ltb, leb}
 use native.Mathlib.Omega.{arith}
 use borrow.Author.Tests.{ltb-true, ltb-false, leb-true, leb-false}
 use Rattle.idms.specs.declared.Placed.{Placed}
+use Rattle.rtcp.specs.declared.cursor.State.{State}
 use Rattle.rtcp.specs.declared.cursor.Cursor.{Cursor}
 use Rattle.rtcp.specs.declared.cursor.Step.{Step}
 use Rattle.rtcp.specs.declared.cursor.Advance.{Advance}
@@ -17,7 +18,7 @@ use Rattle.rtcp.specs.Bytes.{be32}
 use Rattle.rtcp.specs.Packet.{packetType, count, size, content, headCheck}
 use Rattle.rtcp.specs.Report.{blockSize, blockCheck, reports, blockItems}
 use Rattle.rtcp.specs.Datagram.{sourceItems, blocksCheck, blocksItems, packetCheck, packetItems, packetsCheck, packetsItems, lengthIsBad, datagramCheck, datagramItems}
-use Rattle.rtcp.specs.Cursor.{past, readable, entered, torn, advance, left, seek, nextOf, start, remaining, given}
+use Rattle.rtcp.specs.Cursor.{past, readable, entered, torn, advance, left, cursorAt, seek, nextOf, start, remaining, given}
 use Rattle.rtcp.proofs.Laws.Packet.{check-passes, HeadPassed, head-passed, least-bye, least-xr}
 use Rattle.rtcp.proofs.Laws.Blocks.{items-none, items-one, block-inside}
 use Rattle.rtcp.proofs.Laws.Datagram.{sources-part, sources-end, blocks-turn, blocks-end, PacketsTurn, packets-turn, packets-end, items-bye, items-xr, items-settings, items-unread, check-xr, head-of-packet, Apart, bye, xr, settings, unread, apart}
@@ -27,61 +28,61 @@ use Rattle.rtcp.proofs.Laws.Advance.{packet-torn, packet-stops, packet-
 -- ---- left falls with each step that gives no item
 
 -- the steps that can be told apart by their ends
-data Falls (d : List ℕ) (c : Cursor) : Advance → Type 0 where
+data Falls (d : List ℕ) (c : State) : Advance → Type 0 where
   ends : Falls d c Advance.End
-  gives : (x : Placed) (n : Cursor) → Falls d c (Advance.Item x n)
-  falls : (n : Cursor) → left d n < left d c → Falls d c (Advance.Onward n)
+  gives : (x : Placed) (n : State) → Falls d c (Advance.Item x n)
+  falls : (n : State) → left d n < left d c → Falls d c (Advance.Onward n)
 
-entered-falls : (d : List ℕ) (p : ℕ) → 4 ≤ length d - p → readable d p ≡ true → Falls d (Cursor.Packet p) (entered d p)
+entered-falls : (d : List ℕ) (p : ℕ) → 4 ≤ length d - p → readable d p ≡ true → Falls d (State.Packet p) (entered d p)
 entered-falls d p h e = go (apart (packetType d p))
   where
     known : Readable d p
     known = readable-packet d p e
 
-    go : Apart (packetType d p) → Falls d (Cursor.Packet p) (entered d p)
+    go : Apart (packetType d p) → Falls d (State.Packet p) (entered d p)
     go (bye t) =
         rw (entered-bye d p t)
-        (falls (Cursor.Sources (p + 4) (p + (4 + 4 * count d p)) (p + size d p))
+        (falls (State.Sources (p + 4) (p + (4 + 4 * count d p)) (p + size d p))
         (omega (arith, known .fits, known .inside, least-bye _ _ _ (known .enough) t)))
     go (xr t) =
         rw (entered-xr d p t)
-        (falls (Cursor.Blocks (be32 d (p + 4)) (p + 8) (p + content d p) (p + size d p))
+        (falls (State.Blocks (be32 d (p + 4)) (p + 8) (p + content d p) (p + size d p))
         (omega (arith, known .fits, known .inside, least-xr _ _ _ (known .enough) t)))
     go (settings t) = rw (entered-settings d p t) (gives _ _)
     go (unread a b c) = rw (entered-unread d p a b c) (falls (past d p) (omega (arith, known .fits)))
 
-advance-falls : (d : List ℕ) (c : Cursor) → Falls d c (advance d c)
-advance-falls d (Cursor.Packet p) = go (ltb (length d - p) 4) refl (readable d p) refl
+advance-falls : (d : List ℕ) (c : State) → Falls d c (advance d c)
+advance-falls d (State.Packet p) = go (ltb (length d - p) 4) refl (readable d p) refl
   where
     go :
         (t : Bool) → ltb (length d - p) 4 ≡ t → (k : Bool) → readable d p ≡ k
-        → Falls d (Cursor.Packet p) (advance d (Cursor.Packet p))
+        → Falls d (State.Packet p) (advance d (State.Packet p))
     go true t k e = rw (packet-torn d p (ltb-true (length d - p) 4 t)) ends
     go false t true e =
         rw (packet-entered d p (ltb-false (length d - p) 4 t) e) (entered-falls d p (ltb-false (length d - p) 4 t) e)
     go false t false e = rw (packet-stops d p (ltb-false (length d - p) 4 t) e) ends
-advance-falls d (Cursor.Sources at stop next) = go (leb stop at) refl (torn d at stop) refl
+advance-falls d (State.Sources at stop next) = go (leb stop at) refl (torn d at stop) refl
   where
-    go : (t : Bool) → leb stop at ≡ t → (b : Bool) → torn d at stop ≡ b → Falls d (Cursor.Sources at stop next) (advance d (Cursor.Sources at stop next))
-    go true t b e = rw (sources-behind d at stop next (leb-true stop at t)) (falls (Cursor.Packet next) (omega arith))
+    go : (t : Bool) → leb stop at ≡ t → (b : Bool) → torn d at stop ≡ b → Falls d (State.Sources at stop next) (advance d (State.Sources at stop next))
+    go true t b e = rw (sources-behind d at stop next (leb-true stop at t)) (falls (State.Packet next) (omega arith))
     go false t true e = rw (sources-torn d at stop next (leb-false stop at t) e) ends
     go false t false e = rw (sources-item d at stop next (leb-false stop at t) e) (gives _ _)
-advance-falls d (Cursor.Blocks sender at stop next) = go (leb stop at) refl (torn d at stop) refl (blockCheck d stop at) refl (reports d at) refl
+advance-falls d (State.Blocks sender at stop next) = go (leb stop at) refl (torn d at stop) refl (blockCheck d stop at) refl (reports d at) refl
   where
     go :
         (t : Bool) → leb stop at ≡ t → (b : Bool) → torn d at stop ≡ b → (k : Check) → blockCheck d stop at ≡ k
         → (r : Bool) → reports d at ≡ r
-        → Falls d (Cursor.Blocks sender at stop next) (advance d (Cursor.Blocks sender at stop next))
-    go true t b e k f r g = rw (blocks-behind d sender at stop next (leb-true stop at t)) (falls (Cursor.Packet next) (omega arith))
+        → Falls d (State.Blocks sender at stop next) (advance d (State.Blocks sender at stop next))
+    go true t b e k f r g = rw (blocks-behind d sender at stop next (leb-true stop at t)) (falls (State.Packet next) (omega arith))
     go false t true e k f r g = rw (blocks-torn d sender at stop next (leb-false stop at t) e) ends
     go false t false e (refused number place) f r g =
         rw (blocks-stop d sender at stop next (leb-false stop at t) e number place f) ends
     go false t false e passed f true g = rw (blocks-item d sender at stop next (leb-false stop at t) e f g) (gives _ _)
     go false t false e passed f false g =
         rw (blocks-pass d sender at stop next (leb-false stop at t) e f g)
-        (falls (Cursor.Blocks sender (at + blockSize d at) stop next) (omega (arith, block-inside d stop at f, leb-false stop at t)))
+        (falls (State.Blocks sender (at + blockSize d at) stop next) (omega (arith, block-inside d stop at f, leb-false stop at t)))
 
-pub left-falls : (d : List ℕ) (c n : Cursor) → advance d c ≡ Advance.Onward n → left d n < left d c
+pub left-falls : (d : List ℕ) (c n : State) → advance d c ≡ Advance.Onward n → left d n < left d c
 left-falls d c n e = take e (advance-falls d c)
   where
     take : {a : Advance} → a ≡ Advance.Onward n → Falls d c a → left d n < left d c
@@ -91,54 +92,54 @@ left-falls d c n e = take e (advance-falls d c)
 
 -- ---- nextOf, by the step
 
-seek-item : (k : ℕ) (d : List ℕ) (c : Cursor) (x : Placed) (n : Cursor) → advance d c ≡ Advance.Item x n → seek (suc k) d c ≡ Step.Item x n
+seek-item : (k : ℕ) (d : List ℕ) (c : State) (x : Placed) (n : State) → advance d c ≡ Advance.Item x n → seek (suc k) d c ≡ Step.Item x (cursorAt n)
 unfolding seek
 seek-item k d c x n e = rw (e, seek)
 
-seek-onward : (k : ℕ) (d : List ℕ) (c n : Cursor) → advance d c ≡ Advance.Onward n → seek (suc k) d c ≡ seek k d n
+seek-onward : (k : ℕ) (d : List ℕ) (c n : State) → advance d c ≡ Advance.Onward n → seek (suc k) d c ≡ seek k d n
 unfolding seek
 seek-onward k d c n e = rw (e, seek)
 
-seek-end : (k : ℕ) (d : List ℕ) (c : Cursor) → advance d c ≡ Advance.End → seek (suc k) d c ≡ Step.End
+seek-end : (k : ℕ) (d : List ℕ) (c : State) → advance d c ≡ Advance.End → seek (suc k) d c ≡ Step.End
 unfolding seek
 seek-end k d c e = rw (e, seek)
 
 -- any bound that is enough finds the same
-seek-enough : (k j : ℕ) (d : List ℕ) (c : Cursor) → left d c < k → left d c < j → seek k d c ≡ seek j d c
+seek-enough : (k j : ℕ) (d : List ℕ) (c : State) → left d c < k → left d c < j → seek k d c ≡ seek j d c
 seek-enough zero j d c hk hj = absurd (omega arith)
 seek-enough (suc k) zero d c hk hj = absurd (omega arith)
 seek-enough (suc k) (suc j) d c hk hj =
     go (advance d c) refl (λ n e. seek-enough k j d n (omega (arith, left-falls d c n e)) (omega (arith, left-falls d c n e)))
   where
     go :
-        (a : Advance) → advance d c ≡ a → ((n : Cursor) → advance d c ≡ Advance.Onward n → seek k d n ≡ seek j d n)
+        (a : Advance) → advance d c ≡ a → ((n : State) → advance d c ≡ Advance.Onward n → seek k d n ≡ seek j d n)
         → seek (suc k) d c ≡ seek (suc j) d c
     go (Advance.Item x n) e rest = seek-item k d c x n e ∙ sym (seek-item j d c x n e)
     go (Advance.Onward n) e rest = seek-onward k d c n e ∙ rest n e ∙ sym (seek-onward j d c n e)
     go Advance.End e rest = seek-end k d c e ∙ sym (seek-end j d c e)
 
-pub next-item : (d : List ℕ) (c : Cursor) (x : Placed) (n : Cursor) → advance d c ≡ Advance.Item x n → nextOf d c ≡ Step.Item x n
+pub next-item : (d : List ℕ) (c : State) (x : Placed) (n : State) → advance d c ≡ Advance.Item x n → nextOf d (cursorAt c) ≡ Step.Item x (cursorAt n)
 unfolding nextOf
 next-item d c x n e = seek-item (left d c) d c x n e
 
-pub next-end : (d : List ℕ) (c : Cursor) → advance d c ≡ Advance.End → nextOf d c ≡ Step.End
+pub next-end : (d : List ℕ) (c : State) → advance d c ≡ Advance.End → nextOf d (cursorAt c) ≡ Step.End
 unfolding nextOf
 next-end d c e = seek-end (left d c) d c e
 
-pub next-onward : (d : List ℕ) (c n : Cursor) → advance d c ≡ Advance.Onward n → nextOf d c ≡ nextOf d n
+pub next-onward : (d : List ℕ) (c n : State) → advance d c ≡ Advance.Onward n → nextOf d (cursorAt c) ≡ nextOf d (cursorAt n)
 unfolding nextOf
 next-onward d c n e =
     seek-onward (left d c) d c n e ∙ seek-enough (left d c) (suc (left d n)) d n (left-falls d c n e) (omega arith)
 
 -- ---- Good: a cursor that a datagram with no refusal has given
 
-abbrev pub Good : List ℕ → Cursor → Type 0
-Good d (Cursor.Packet p) = ((length d - p) % 4 ≡ 0) × (packetsCheck d p ≡ passed)
-Good d (Cursor.Sources at stop next) = (stop ≤ length d) × ((stop - at) % 4 ≡ 0) × ((length d - next) % 4 ≡ 0) × (packetsCheck d next ≡ passed)
-Good d (Cursor.Blocks sender at stop next) =
+abbrev pub Good : List ℕ → State → Type 0
+Good d (State.Packet p) = ((length d - p) % 4 ≡ 0) × (packetsCheck d p ≡ passed)
+Good d (State.Sources at stop next) = (stop ≤ length d) × ((stop - at) % 4 ≡ 0) × ((length d - next) % 4 ≡ 0) × (packetsCheck d next ≡ passed)
+Good d (State.Blocks sender at stop next) =
     (stop ≤ length d) × ((stop - at) % 4 ≡ 0) × ((length d - next) % 4 ≡ 0) × (packetsCheck d next ≡ passed) × (blocksCheck d stop at ≡ passed)
 
-pub start-good : (d : List ℕ) → datagramCheck d ≡ passed → Good d start
+pub start-good : (d : List ℕ) → datagramCheck d ≡ passed → Good d (start .state)
 unfolding datagramCheck
 start-good d e =
     let checked : _ = check-passes (lengthIsBad (length d)) _ _ _ e in
@@ -146,10 +147,10 @@ start-good d e =
     (omega arith, checked .1)
 
 -- one step from a good cursor
-data Steps (d : List ℕ) (c : Cursor) : Advance → Type 0 where
+data Steps (d : List ℕ) (c : State) : Advance → Type 0 where
   ended : remaining d c ≡ [] → Steps d c Advance.End
-  gave : (x : Placed) (n : Cursor) → remaining d c ≡ x ∷ remaining d n → Good d n → Steps d c (Advance.Item x n)
-  went : (n : Cursor) → remaining d c ≡ remaining d n → Good d n → Steps d c (Advance.Onward n)
+  gave : (x : Placed) (n : State) → remaining d c ≡ x ∷ remaining d n → Good d n → Steps d c (Advance.Item x n)
+  went : (n : State) → remaining d c ≡ remaining d n → Good d n → Steps d c (Advance.Onward n)
 
 module _ (d : List ℕ) (p : ℕ) (h : p < length d) (w : (length d - p) % 4 ≡ 0) (e : packetsCheck d p ≡ passed) where
   turn : PacketsTurn d p
@@ -161,18 +162,18 @@ module _ (d : List ℕ) (p : ℕ) (h : p < length d) (w : (length d - p) % 4 ≡
   items-as : {l : List Placed} → packetItems d p ≡ l → packetsItems d p ≡ l ++ packetsItems d (p + size d p)
   items-as i = turn .items ∙ ap (λ (l : List Placed). l ++ packetsItems d (p + size d p)) i
 
-  entered-steps : Steps d (Cursor.Packet p) (entered d p)
+  entered-steps : Steps d (State.Packet p) (entered d p)
   entered-steps = go (apart (packetType d p))
     where
-      go : Apart (packetType d p) → Steps d (Cursor.Packet p) (entered d p)
+      go : Apart (packetType d p) → Steps d (State.Packet p) (entered d p)
       go (bye t) =
           rw (entered-bye d p t)
-          (went (Cursor.Sources (p + 4) (p + (4 + 4 * count d p)) (p + size d p))
+          (went (State.Sources (p + 4) (p + (4 + 4 * count d p)) (p + size d p))
           (items-as (items-bye d p t))
           (omega (arith, turn .known .fits, turn .known .inside, least-bye _ _ _ (turn .known .enough) t), omega arith, behind .0, behind .1))
       go (xr t) =
           rw (entered-xr d p t)
-          (went (Cursor.Blocks (be32 d (p + 4)) (p + 8) (p + content d p) (p + size d p))
+          (went (State.Blocks (be32 d (p + 4)) (p + 8) (p + content d p) (p + size d p))
           (items-as (items-xr d p t)) (
             omega (arith, turn .known .fits, turn .known .inside),
             omega (arith, turn .known .words, least-xr _ _ _ (turn .known .enough) t),
@@ -183,46 +184,46 @@ module _ (d : List ℕ) (p : ℕ) (h : p < length d) (w : (length d - p) % 4 ≡
       go (settings t) = rw (entered-settings d p t) (gave _ (past d p) (items-as (items-settings d p t)) behind)
       go (unread a b c) = rw (entered-unread d p a b c) (went (past d p) (items-as (items-unread d p a b c)) behind)
 
-  packet-steps : Steps d (Cursor.Packet p) (advance d (Cursor.Packet p))
+  packet-steps : Steps d (State.Packet p) (advance d (State.Packet p))
   packet-steps =
       rw (packet-entered d p (omega arith) (readable-there d p (turn .known .fits) (turn .known .enough))) entered-steps
 
-advance-steps : (d : List ℕ) (c : Cursor) → Good d c → Steps d c (advance d c)
-advance-steps d (Cursor.Packet p) good = go (ltb p (length d)) refl
+advance-steps : (d : List ℕ) (c : State) → Good d c → Steps d c (advance d c)
+advance-steps d (State.Packet p) good = go (ltb p (length d)) refl
   where
-    go : (t : Bool) → ltb p (length d) ≡ t → Steps d (Cursor.Packet p) (advance d (Cursor.Packet p))
+    go : (t : Bool) → ltb p (length d) ≡ t → Steps d (State.Packet p) (advance d (State.Packet p))
     go true t = packet-steps d p (ltb-true p (length d) t) (good .0) (good .1)
     go false t =
         let over : length d ≤ p = ltb-false p (length d) t in
         rw (packet-torn d p (omega arith))
         (ended (packets-end d p over))
-advance-steps d (Cursor.Sources at stop next) good = go (leb stop at) refl
+advance-steps d (State.Sources at stop next) good = go (leb stop at) refl
   where
-    go : (t : Bool) → leb stop at ≡ t → Steps d (Cursor.Sources at stop next) (advance d (Cursor.Sources at stop next))
+    go : (t : Bool) → leb stop at ≡ t → Steps d (State.Sources at stop next) (advance d (State.Sources at stop next))
     go true t =
         let over : stop ≤ at = leb-true stop at t in
         rw (sources-behind d at stop next over)
-        (went (Cursor.Packet next) (ap (λ (l : List Placed). l ++ packetsItems d next) (sources-end d stop at over)) (good .2, good .3))
+        (went (State.Packet next) (ap (λ (l : List Placed). l ++ packetsItems d next) (sources-end d stop at over)) (good .2, good .3))
     go false t =
         let here : at < stop = leb-false stop at t in
         rw (sources-item d at stop next here (whole-word d at stop (good .0) (omega (arith, good .1))))
-        (gave _ (Cursor.Sources (at + 4) stop next)
+        (gave _ (State.Sources (at + 4) stop next)
         (ap (λ (l : List Placed). l ++ packetsItems d next) (sources-part d stop at here))
         (good .0, omega (arith, good .1), good .2, good .3))
-advance-steps d (Cursor.Blocks sender at stop next) good = go (leb stop at) refl (reports d at) refl
+advance-steps d (State.Blocks sender at stop next) good = go (leb stop at) refl (reports d at) refl
   where
-    go : (t : Bool) → leb stop at ≡ t → (r : Bool) → reports d at ≡ r → Steps d (Cursor.Blocks sender at stop next) (advance d (Cursor.Blocks sender at stop next))
+    go : (t : Bool) → leb stop at ≡ t → (r : Bool) → reports d at ≡ r → Steps d (State.Blocks sender at stop next) (advance d (State.Blocks sender at stop next))
     go true t r g =
         let over : stop ≤ at = leb-true stop at t in
         rw (blocks-behind d sender at stop next over)
-        (went (Cursor.Packet next)
+        (went (State.Packet next)
         (ap (λ (l : List Placed). l ++ packetsItems d next) (blocks-end d sender stop at over))
         (good .2, good .3))
     go false t true g =
         let here : at < stop = leb-false stop at t in
         let turn : _ = blocks-turn d sender stop at here (good .4) in
         rw (blocks-item d sender at stop next here (whole-word d at stop (good .0) (omega (arith, good .1))) (turn .check) g)
-        (gave _ (Cursor.Blocks sender (at + blockSize d at) stop next)
+        (gave _ (State.Blocks sender (at + blockSize d at) stop next)
         (ap (λ (l : List Placed). l ++ packetsItems d next)
         (turn .items ∙ ap (λ (l : List Placed). l ++ blocksItems d sender stop (at + blockSize d at)) (items-one d sender at g)))
         (good .0, omega (arith, good .1, turn .inside), good .2, good .3, turn .later))
@@ -230,75 +231,80 @@ advance-steps d (Cursor.Blocks sender at stop next) good = go (leb stop at) refl
         let here : at < stop = leb-false stop at t in
         let turn : _ = blocks-turn d sender stop at here (good .4) in
         rw (blocks-pass d sender at stop next here (whole-word d at stop (good .0) (omega (arith, good .1))) (turn .check) g)
-        (went (Cursor.Blocks sender (at + blockSize d at) stop next)
+        (went (State.Blocks sender (at + blockSize d at) stop next)
         (ap (λ (l : List Placed). l ++ packetsItems d next)
         (turn .items ∙ ap (λ (l : List Placed). l ++ blocksItems d sender stop (at + blockSize d at)) (items-none d sender at g)))
         (good .0, omega (arith, good .1, turn .inside), good .2, good .3, turn .later))
 
 -- ---- what a good cursor gives next
 
-pub data Gives (d : List ℕ) (c : Cursor) : Step → Type 0 where
+pub data Gives (d : List ℕ) (c : State) : Step → Type 0 where
   ended : remaining d c ≡ [] → Gives d c Step.End
-  gave : (x : Placed) (n : Cursor) → remaining d c ≡ x ∷ remaining d n → Good d n → Gives d c (Step.Item x n)
+  gave : (x : Placed) (n : State) → remaining d c ≡ x ∷ remaining d n → Good d n → Gives d c (Step.Item x (cursorAt n))
 
-seek-gives : (k : ℕ) (d : List ℕ) (c : Cursor) → left d c < k → Good d c → Gives d c (seek k d c)
+seek-gives : (k : ℕ) (d : List ℕ) (c : State) → left d c < k → Good d c → Gives d c (seek k d c)
 seek-gives zero d c h good = absurd (omega arith)
 seek-gives (suc k) d c h good =
     go refl (advance-steps d c good) (λ n e g. seek-gives k d n (omega (arith, left-falls d c n e)) g)
   where
-    moved : (n : Cursor) {s : Step} → remaining d c ≡ remaining d n → Gives d n s → Gives d c s
+    moved : (n : State) {s : Step} → remaining d c ≡ remaining d n → Gives d n s → Gives d c s
     moved n e (Gives.ended f) = Gives.ended (e ∙ f)
     moved n e (Gives.gave x m f g) = Gives.gave x m (e ∙ f) g
 
     go :
         {a : Advance} → advance d c ≡ a → Steps d c a
-        → ((n : Cursor) → advance d c ≡ Advance.Onward n → Good d n → Gives d n (seek k d n))
+        → ((n : State) → advance d c ≡ Advance.Onward n → Good d n → Gives d n (seek k d n))
         → Gives d c (seek (suc k) d c)
     go e (Steps.ended f) rest = rw (seek-end k d c e) (Gives.ended f)
     go e (Steps.gave x n f g) rest = rw (seek-item k d c x n e) (Gives.gave x n f g)
     go e (Steps.went n f g) rest = rw (seek-onward k d c n e) (moved n f (rest n e g))
 
-pub next-gives : (d : List ℕ) (c : Cursor) → Good d c → Gives d c (nextOf d c)
+pub next-gives : (d : List ℕ) (c : State) → Good d c → Gives d c (nextOf d (cursorAt c))
 unfolding nextOf
 next-gives d c good = seek-gives (suc (left d c)) d c (omega arith) good
 
 pub at-item :
-    (d : List ℕ) (c : Cursor) (x : Placed) (n : Cursor) → Good d c → nextOf d c ≡ Step.Item x n
-    → (remaining d c ≡ x ∷ remaining d n) × Good d n
-at-item d c x n good e = take e (next-gives d c good)
+    (d : List ℕ) (c : Cursor) (x : Placed) (n : Cursor) → Good d (c .state) → nextOf d c ≡ Step.Item x n
+    → (remaining d (c .state) ≡ x ∷ remaining d (n .state)) × Good d (n .state)
+at-item d c x n good e = take e (next-gives d (c .state) good)
   where
-    take : {s : Step} → s ≡ Step.Item x n → Gives d c s → (remaining d c ≡ x ∷ remaining d n) × Good d n
+    take :
+        {s : Step} → s ≡ Step.Item x n → Gives d (c .state) s
+        → (remaining d (c .state) ≡ x ∷ remaining d (n .state)) × Good d (n .state)
     take e (Gives.ended f) = let z : _≡_ {A = ℕ} 0 1 = cc in absurd (omega arith)
     take e (Gives.gave y m f g) =
         let first : y ≡ x = cc in
-        let later : m ≡ n = cc in
+        let behind : cursorAt m ≡ n = cc in
+        let later : m ≡ n .state = ap (λ (k : Cursor). k .state) behind in
         (rw (first, later) at f, rw later at g)
 
-pub at-end : (d : List ℕ) (c : Cursor) → Good d c → nextOf d c ≡ Step.End → remaining d c ≡ []
-at-end d c good e = take e (next-gives d c good)
+pub at-end : (d : List ℕ) (c : Cursor) → Good d (c .state) → nextOf d c ≡ Step.End → remaining d (c .state) ≡ []
+at-end d c good e = take e (next-gives d (c .state) good)
   where
-    take : {s : Step} → s ≡ Step.End → Gives d c s → remaining d c ≡ []
+    take : {s : Step} → s ≡ Step.End → Gives d (c .state) s → remaining d (c .state) ≡ []
     take e (Gives.ended f) = f
     take e (Gives.gave y m f g) = let z : _≡_ {A = ℕ} 0 1 = cc in absurd (omega arith)
 
 -- ---- all of them: from the start, a datagram with no refusal gives item 0, 1, .. count − 1, and then the end
 
-given-all : (k : ℕ) (d : List ℕ) (c : Cursor) → Good d c → length (remaining d c) ≤ k → given k d c ≡ remaining d c
+given-all :
+    (k : ℕ) (d : List ℕ) (c : Cursor) → Good d (c .state) → length (remaining d (c .state)) ≤ k
+    → given k d c ≡ remaining d (c .state)
 unfolding given
-given-all zero d c good h = sym (none (remaining d c) h)
+given-all zero d c good h = sym (none (remaining d (c .state)) h)
   where
     none : (l : List Placed) → length l ≤ 0 → l ≡ []
     none [] h = refl
     none (x ∷ l) h = absurd (omega arith)
-given-all (suc k) d c good h = go refl (next-gives d c good) (λ n g l. given-all k d n g l)
+given-all (suc k) d c good h = go refl (next-gives d (c .state) good) (λ n g l. given-all k d n g l)
   where
     go :
-        {s : Step} → nextOf d c ≡ s → Gives d c s
-        → ((n : Cursor) → Good d n → length (remaining d n) ≤ k → given k d n ≡ remaining d n)
-        → given (suc k) d c ≡ remaining d c
+        {s : Step} → nextOf d c ≡ s → Gives d (c .state) s
+        → ((n : Cursor) → Good d (n .state) → length (remaining d (n .state)) ≤ k → given k d n ≡ remaining d (n .state))
+        → given (suc k) d c ≡ remaining d (c .state)
     go e (Gives.ended f) rest = rw (e, given) (sym f)
     go e (Gives.gave x n f g) rest =
-        rw (e, given) (ap (λ (l : List Placed). x ∷ l) (rest n g (omega (arith, ap length f))) ∙ sym f)
+        rw (e, given) (ap (λ (l : List Placed). x ∷ l) (rest (cursorAt n) g (omega (arith, ap length f))) ∙ sym f)
 
 pub cursor-gives-items :
     (d : List ℕ) (k : ℕ) → datagramCheck d ≡ passed → length (datagramItems d) ≤ k → given k d start ≡ datagramItems d

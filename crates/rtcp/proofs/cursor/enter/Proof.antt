@@ -4,7 +4,7 @@ use mathlib.Core.Path.{_≡_, sym, ap, _∙_}
 use native.Mathlib.Omega.{arith}
 use Rattle.rtcp.specs.Packet.{packetType}
 use Rattle.rtcp.specs.declared.cursor.Advance.{Advance}
-use Rattle.rtcp.specs.declared.cursor.Cursor.{Cursor}
+use Rattle.rtcp.specs.declared.cursor.State.{State}
 use Rattle.rtcp.specs.declared.packet.Head.{Head}
 use Rattle.rtcp.proofs.Laws.Advance.{readable-packet, entered-bye, entered-xr, entered-settings, entered-unread}
 use Rattle.rtcp.proofs.Laws.Packet.{least-bye, least-xr, exact-settings}
@@ -146,7 +146,7 @@ returns c =
     let pre = c .before .before .before .before .pre in
     let match = c .before .match in
     let t : packetType d p ≡ 203 = sym (ap (λ (x : Head). x .kind) (pre .0)) ∙ match .keys1 in
-    ap (λ (x : Head). Advance.Onward (Cursor.Sources (p + 4) (p + (4 + 4 * x .count)) (p + x .bytes))) (pre .0)
+    ap (λ (x : Head). Advance.Onward (State.Sources (p + 4) (p + (4 + 4 * x .count)) (p + x .bytes))) (pre .0)
     ∙ sym (entered-bye d p t)
 
 returns-2 : tie.Need-returns-2
@@ -175,7 +175,7 @@ returns-4 c =
     let d = c .before .before .before .args .d .now in
     let match = c .match in
     let k : _ = sym (ap (λ (x : Head). x .kind) (pre .0)) in
-    ap (λ (x : Head). Advance.Onward (Cursor.Packet (p + x .bytes))) (pre .0)
+    ap (λ (x : Head). Advance.Onward (State.Packet (p + x .bytes))) (pre .0)
     ∙ sym
     (entered-unread d p (λ e. match .rest .0 .0 .1 (sym k ∙ e)) (λ e. match .rest .0 .1 (sym k ∙ e))
     (λ e. match .rest .1 (sym k ∙ e)))

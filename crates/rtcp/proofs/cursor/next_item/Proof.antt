@@ -1,13 +1,13 @@
 -- Steps up to an item: each step that gives none keeps what comes next. The measure is what is left to step over.
 use mathlib.Core.Path.{_≡_, refl, sym, _∙_}
 use borrow.Author.Needs.{needs}
-use Rattle.rtcp.specs.Cursor.{left, nextOf}
+use Rattle.rtcp.specs.Cursor.{left, cursorAt, nextOf}
 use Rattle.rtcp.proofs.Laws.Cursor.{left-falls, next-item, next-end, next-onward}
 use Rattle.rtcp.proofs.cursor.next_item.Statement.{statement}
 use Rattle.rtcp.proofs.cursor.next_item.Tie as tie
 
 abbrev Inv-loop : tie.InvT-loop
-Inv-loop d c₀ c = nextOf d c₀ ≡ nextOf d c
+Inv-loop d c₀ c = nextOf d (cursorAt c₀) ≡ nextOf d (cursorAt c)
 
 abbrev μ-loop : tie.MeasureT-loop
 μ-loop d c₀ c = left d c

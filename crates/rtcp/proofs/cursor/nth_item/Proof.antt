@@ -16,9 +16,9 @@ use Rattle.rtcp.proofs.cursor.nth_item.Tie as tie
 
 abbrev Inv-loop : tie.InvT-loop
 Inv-loop d index c₀ left₀ c left =
-    Good d c
-    × (left < length (remaining d c))
-    × (getD (remaining d c) left nothing ≡ getD (datagramItems d) index nothing)
+    Good d (c .state)
+    × (left < length (remaining d (c .state)))
+    × (getD (remaining d (c .state)) left nothing ≡ getD (datagramItems d) index nothing)
 
 abbrev μ-loop : tie.MeasureT-loop
 μ-loop d index c₀ left₀ c left = left
@@ -59,7 +59,7 @@ returns-2 c =
     let g : _ =
     at-item d c′ (x .given .0 .0) (x .given .0 .1 .0) (inv .0) (sym (next-item .ensures) ∙ x .given .1) in
     sym (ap (λ (l : List Placed). getD l 0 nothing) (g .0))
-    ∙ ap (λ (k : ℕ). getD (remaining d c′) k nothing) (sym (if1 .taken))
+    ∙ ap (λ (k : ℕ). getD (remaining d (c′ .state)) k nothing) (sym (if1 .taken))
     ∙ inv .2
 
 sub-left : tie.Need-sub-left Inv-loop μ-loop
@@ -81,7 +81,7 @@ loop-again c =
     at-item d c′ (x .given .0 .0) (x .given .0 .1 .0) (inv .0) (sym (next-item .ensures) ∙ x .given .1) in (
       g .1,
       omega (arith, ap length (g .0), inv .1),
-      sym (getD-behind (x .given .0 .0) (remaining d (x .given .0 .1 .0)) left nothing (if1 .left))
+      sym (getD-behind (x .given .0 .0) (remaining d (x .given .0 .1 .0 .state)) left nothing (if1 .left))
           ∙ sym (ap (λ (l : List Placed). getD l left nothing) (g .0))
           ∙ inv .2,
     )
