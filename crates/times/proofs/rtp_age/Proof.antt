@@ -1,0 +1,26 @@
+-- The age of an RTP time: the difference, or what is left of 2^32 where it wraps.
+use native.Mathlib.Omega.{arith}
+use borrow.Author.Needs.{needs}
+use Rattle.times.specs.Times.{rtpAge}
+use Rattle.times.proofs.rtp_age.Statement.{statement}
+use Rattle.times.proofs.rtp_age.Tie as tie
+
+returns : tie.Need-returns
+unfolding rtpAge
+returns c = omega arith
+
+sub-result : tie.Need-sub-result
+sub-result c = search needs
+
+sub-result-2 : tie.Need-sub-result-2
+sub-result-2 c = search needs
+
+add-result : tie.Need-add-result
+add-result c = search needs
+
+returns-2 : tie.Need-returns-2
+unfolding rtpAge
+returns-2 c = omega arith
+
+pub rtp-age-spec : {M : Type 1} → statement M
+rtp-age-spec = tie.close (tie.spec returns sub-result sub-result-2 add-result returns-2)

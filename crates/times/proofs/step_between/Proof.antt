@@ -1,0 +1,35 @@
+-- The step: `step-zero` where presented is M, `step-other` elsewhere.
+use native.Mathlib.Omega.{arith}
+use borrow.Author.Needs.{needs}
+use Rattle.times.proofs.Laws.{step-zero, step-other}
+use Rattle.times.proofs.step_between.Statement.{statement}
+use Rattle.times.proofs.step_between.Tie as tie
+
+cast-rtp-age : tie.Need-cast-rtp-age
+cast-rtp-age c = search needs
+
+rtp-age-requires : tie.Need-rtp-age-requires
+rtp-age-requires c κs = search needs
+
+returns : tie.Need-returns
+returns c =
+    let received = c .before .before .args .received in
+    let presented = c .before .before .args .presented in
+    let rtp-age = c .before .rtp-age in
+    let if1 = c .if1 in
+    (step-zero received presented (rtp-age .result) (rtp-age .ensures) (if1 .taken), omega arith)
+
+cast-result : tie.Need-cast-result
+cast-result c = search needs
+
+returns-2 : tie.Need-returns-2
+returns-2 c =
+    let received = c .before .before .args .received in
+    let presented = c .before .before .args .presented in
+    let rtp-age = c .before .rtp-age in
+    let if1 = c .if1 in
+    (step-other received presented (rtp-age .result) (rtp-age .ensures) (if1 .left), search needs)
+
+pub step-between-spec : {M : Type 1} → statement M
+step-between-spec =
+    tie.close (tie.spec cast-rtp-age rtp-age-requires returns cast-result returns-2)

@@ -1,0 +1,60 @@
+-- Times (document 01, "Times", and the ages of "The member table"). A full time is 64 bits, in units of 2^-32 s, and wraps;
+-- the short presented time has 32 bits, in units of 2^-16 s; an RTP time has 32 bits.
+use Prim.Native.Nat.{ℕ, _+_, _-_, _*_, _/_, _%_, _^_}
+use mathlib.Core.Bool.{Bool, not, cond, _&&_, _||_}
+use lib.Dec.{ltb, eqb}
+
+-- ---- ages
+
+-- (N − received) modulo 2^64
+unfoldable pub ntpAge : ℕ → ℕ → ℕ
+ntpAge n received = (n + 2 ^ 64 - received) % 2 ^ 64
+
+-- (R − RTP) modulo 2^32, and so for any two numbers of 32 bits
+unfoldable pub rtpAge : ℕ → ℕ → ℕ
+rtpAge r rtp = (r + 2 ^ 32 - rtp) % 2 ^ 32
+
+-- ---- presentation
+
+-- 0 stands for 2^32
+abbrev pub fullTurn : ℕ → ℕ
+fullTurn s = cond (eqb s 0) (2 ^ 32) s
+
+-- document 01's M: bits 16 to 47 of received
+abbrev pub middle : ℕ → ℕ
+middle received = received / 2 ^ 16 % 2 ^ 32
+
+-- document 01's step, in units of 2^-16 s: (presented − M) modulo 2^32, where 0 is read as 2^32, since presented is
+-- greater than received
+unfoldable pub step : ℕ → ℕ → ℕ
+step received presented = fullTurn (rtpAge presented (middle received))
+
+-- the presentation before wrapping: received with its low 16 bits cleared, plus step × 2^16
+unfoldable pub unwrapped : ℕ → ℕ → ℕ
+unwrapped received presented = received / 2 ^ 16 * 2 ^ 16 + step received presented * 2 ^ 16
+
+-- the expanded presentation, modulo 2^64
+unfoldable pub expanded : ℕ → ℕ → ℕ
+expanded received presented = unwrapped received presented % 2 ^ 64
+
+-- the delay: expanded minus received, before wrapping
+unfoldable pub delay : ℕ → ℕ → ℕ
+delay received presented = unwrapped received presented - received
+
+-- ---- checks 15, 16 and 17
+
+-- 15: received time not within 30 s at or before the sender's reading
+abbrev pub isFar : ℕ → ℕ → Bool
+isFar n received = ltb (30 * 2 ^ 32) (ntpAge n received)
+
+-- 16: RTP age above 60 seconds of media clock
+abbrev pub isAged : ℕ → ℕ → ℕ → Bool
+isAged rate r rtp = ltb (60 * rate) (rtpAge r rtp)
+
+-- 17: presentation delay over 30 s, or expanded presentation equal to 0
+abbrev pub isBadlyPresented : ℕ → ℕ → Bool
+isBadlyPresented received presented = ltb (30 * 2 ^ 32) (delay received presented) || eqb (expanded received presented) 0
+
+-- fresh: neither 15 nor 16 would be given at this reading
+abbrev pub isFresh : ℕ → ℕ → ℕ → ℕ → ℕ → Bool
+isFresh rate n r received rtp = not (isFar n received) && not (isAged rate r rtp)

@@ -1,0 +1,91 @@
+// Times that wrap: presentation, ages, and the checks on them. Every function takes any numbers.
+ghost use mathlib.Core.Path.{_≡_};
+ghost use Prim.Native.Nat.{_≤_, _^_};
+ghost use Rattle.times.specs.Times.{step, expanded, delay, ntpAge, rtpAge, isFar, isAged, isBadlyPresented, isFresh};
+
+// 30 s in units of 2^-32 s.
+const LONGEST: u64 = 128849018880;
+
+// How long before the sender's reading N the packet was received.
+pub fn ntp_age(n: u64, received: u64) -> u64
+    ensures { λ r. ⌜ r ≡ ntpAge n received ⌝ }
+{
+    if received <= n {
+        return n - received;
+    }
+    18446744073709551615 - (received - n) + 1
+}
+
+// How far before the sender's reading R the RTP time lies, in units of the media clock.
+pub fn rtp_age(r: u32, rtp: u32) -> u32
+    ensures { λ a. ⌜ a ≡ rtpAge r rtp ⌝ }
+{
+    if rtp <= r {
+        return r - rtp;
+    }
+    4294967295 - (rtp - r) + 1
+}
+
+// The step in units of 2^-16 s, a full turn for 0. M lies before presented as an RTP time lies before a reading.
+fn step_between(received: u64, presented: u32) -> u64
+    ensures { λ r. ⌜ (r ≡ step received presented) × (r ≤ 2 ^ 32) ⌝ }
+{
+    let t = rtp_age(presented, (received / 65536 % 4294967296) as u32);
+    if t == 0 {
+        return 4294967296;
+    }
+    t as u64
+}
+
+// How long after its arrival a sample is presented, in units of 2^-32 s.
+pub fn presentation_delay(received: u64, presented: u32) -> u64
+    ensures { λ r. ⌜ r ≡ delay received presented ⌝ }
+{
+    step_between(received, presented) * 65536 - received % 65536
+}
+
+// The short presented time as a full time.
+pub fn presentation(received: u64, presented: u32) -> u64
+    ensures { λ r. ⌜ r ≡ expanded received presented ⌝ }
+{
+    let base = received / 65536 * 65536;
+    let on = step_between(received, presented) * 65536;
+    if on <= 18446744073709551615 - base {
+        return base + on;
+    }
+    on - (18446744073709551615 - base) - 1
+}
+
+// Check 15.
+pub fn is_far(n: u64, received: u64) -> bool
+    ensures { λ b. ⌜ b ≡ isFar n received ⌝ }
+{
+    LONGEST < ntp_age(n, received)
+}
+
+// Check 16, for any rate.
+pub fn is_aged(rate: u32, r: u32, rtp: u32) -> bool
+    ensures { λ b. ⌜ b ≡ isAged rate r rtp ⌝ }
+{
+    60 * (rate as u64) < rtp_age(r, rtp) as u64
+}
+
+// Check 17.
+pub fn is_badly_presented(received: u64, presented: u32) -> bool
+    ensures { λ b. ⌜ b ≡ isBadlyPresented received presented ⌝ }
+{
+    if LONGEST < presentation_delay(received, presented) {
+        return true;
+    }
+    presentation(received, presented) == 0
+}
+
+// Whether neither 15 nor 16 would be given.
+pub fn is_fresh(rate: u32, n: u64, r: u32, received: u64, rtp: u32) -> bool
+    ensures { λ b. ⌜ b ≡ isFresh rate n r received rtp ⌝ }
+{
+    if is_far(n, received) {
+        return false;
+    }
+    !is_aged(rate, r, rtp)
+}
