@@ -1,0 +1,19 @@
+-- The places of the member table (document 01): a single word marks the places held, its lowest digit the first place.
+use Prim.Native.Nat.{ℕ, zero, suc, _+_, _/_, _%_}
+use mathlib.Core.Bool.{Bool, not, cond}
+use lib.Dec.{eqb}
+
+-- whether a place is held
+unfoldable pub isHeld : ℕ → ℕ → Bool
+isHeld zero word = not (eqb (word % 2) 0)
+isHeld (suc place) word = isHeld place (word / 2)
+
+-- how many of the first k places are held
+unfoldable pub heldIn : ℕ → ℕ → ℕ
+heldIn zero word = 0
+heldIn (suc k) word = word % 2 + heldIn k (word / 2)
+
+-- the lowest free place of the first k, or k where none is free
+unfoldable pub lowestFree : ℕ → ℕ → ℕ
+lowestFree zero word = 0
+lowestFree (suc k) word = cond (eqb (word % 2) 0) 0 (suc (lowestFree k (word / 2)))
