@@ -96,16 +96,17 @@ held-below-free zero word place h = absurd (omega arith)
 held-below-free (suc k) word place h =
     held-step k word place (eqb (word % 2) 0) refl (held-below-free k (word / 2)) h
 
--- k is given exactly where no place below it is free
+-- k is given exactly where no place below it is free: then all are held, and the other way round
 pub none-free : (k word place : ℕ) → lowestFree k word ≡ k → place < k → isHeld place word ≡ true
 none-free k word place e h = held-below-free k word place (omega (arith, e))
 
-pub some-free : (k word place : ℕ) → isHeld place word ≡ false → place < k → lowestFree k word < k
-some-free k word place e h = go (ltb place (lowestFree k word)) refl
+pub all-held : (k word : ℕ) → ((place : ℕ) → place < k → isHeld place word ≡ true) → lowestFree k word ≡ k
+all-held k word held = go (ltb (lowestFree k word) k) refl
   where
-    go : (t : Bool) → ltb place (lowestFree k word) ≡ t → lowestFree k word < k
+    go : (t : Bool) → ltb (lowestFree k word) k ≡ t → lowestFree k word ≡ k
     go true q =
-        let both : false ≡ true = sym e ∙ held-below-free k word place (ltb-true place (lowestFree k word) q) in
+        let below : lowestFree k word < k = ltb-true (lowestFree k word) k q in
+        let both : false ≡ true = sym (lowest-free-is-free k word below) ∙ held (lowestFree k word) below in
         let z : _≡_ {A = ℕ} 0 1 = cc in
         absurd (omega arith)
-    go false q = omega (arith, ltb-false place (lowestFree k word) q)
+    go false q = omega (arith, ltb-false (lowestFree k word) k q, lowest-free-within k word)

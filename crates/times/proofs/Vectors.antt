@@ -8,14 +8,16 @@ use Rattle.times.specs.Times.{step, unwrapped, expanded, delay, ntpAge, 
 abbrev seconds : ℕ → ℕ
 seconds n = n * 2 ^ 32
 
--- P1 and P2: delays of 0.5 s and 0.75 s, and P1's ages of 1 s
+-- P1 and P2: delays of 0.5 s and 0.75 s, ages of 1 s and 2 s
 p1-p2 :
     (delay (seconds 999) 0x03E78000 ≡ 2 ^ 31)
     × (delay (seconds 998) 0x03E6C000 ≡ 3 * 2 ^ 30)
     × (ntpAge (seconds 1000) (seconds 999) ≡ 2 ^ 32)
     × (rtpAge 9000000 8910000 ≡ 90000)
+    × (ntpAge (seconds 1000) (seconds 998) ≡ 2 * 2 ^ 32)
+    × (rtpAge 9000000 8820000 ≡ 180000)
 unfolding step unwrapped delay ntpAge rtpAge
-p1-p2 = (refl, refl, refl, refl)
+p1-p2 = (refl, refl, refl, refl, refl, refl)
 
 -- P6 and P7: received before the wrap, N and the presentation behind it; presented 0 expands to 0
 p6-p7 :
@@ -44,10 +46,15 @@ p9 :
 unfolding rtpAge
 p9 = (refl, refl, refl)
 
--- P10: a delay of 30 s passes 17, one unit of 2^-16 s more does not; a step of 0 is a full turn
+-- P10: a delay of 30 s passes 17, one unit of 2^-16 s more does not
 p10 :
     (isBadlyPresented (seconds 999) 0x04050000 ≡ false)
     × (isBadlyPresented (seconds 999) 0x04050001 ≡ true)
-    × (isBadlyPresented (seconds 999) 0x03E70000 ≡ true)
 unfolding step unwrapped delay expanded rtpAge
-p10 = (refl, refl, refl)
+p10 = (refl, refl)
+
+-- a step of 0 is a full turn: a delay of some 18 hours
+full-turn :
+    (delay (seconds 999) 0x03E70000 ≡ 2 ^ 48) × (isBadlyPresented (seconds 999) 0x03E70000 ≡ true)
+unfolding step unwrapped delay expanded rtpAge
+full-turn = (refl, refl)

@@ -51,7 +51,7 @@ isFar n received = ltb (30 * 2 ^ 32) (ntpAge n received)
 abbrev pub isAged : ℕ → ℕ → ℕ → Bool
 isAged rate r rtp = ltb (60 * rate) (rtpAge r rtp)
 
--- 17: presentation delay over 30 s, or expanded presentation equal to 0
+-- 17, of a report with P 1: presentation delay over 30 s, or expanded presentation equal to 0
 abbrev pub isBadlyPresented : ℕ → ℕ → Bool
 isBadlyPresented received presented = ltb (30 * 2 ^ 32) (delay received presented) || eqb (expanded received presented) 0
 

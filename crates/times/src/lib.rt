@@ -70,7 +70,7 @@ pub fn is_aged(rate: u32, r: u32, rtp: u32) -> bool
     60 * (rate as u64) < rtp_age(r, rtp) as u64
 }
 
-// Check 17.
+// Check 17, of a report with P 1.
 pub fn is_badly_presented(received: u64, presented: u32) -> bool
     ensures { λ b. ⌜ b ≡ isBadlyPresented received presented ⌝ }
 {

@@ -1,0 +1,108 @@
+-- The register at the papers' cases: P1 to P4, the twin of source 10 on a second port, and what a farewell and a sweep
+-- leave.
+use Prim.Native.Nat.{ℕ, _+_, _*_, _^_}
+use mathlib.Core.Bool.{true, false}
+use mathlib.Core.List.{List, [], _∷_}
+use mathlib.Core.Path.{_≡_, refl}
+use lib.IntN.{pos}
+use Rattle.times.specs.Times.{ntpAge, rtpAge, step, unwrapped, expanded, delay}
+use Rattle.idms.specs.declared.Report.{Report}
+use Rattle.origin.specs.declared.Origin.{Origin}
+use Rattle.origin.specs.Origins.{sameBytes, sameOrigin}
+use Rattle.group.specs.declared.Record.{Record}
+use Rattle.group.specs.declared.Reading.{Reading}
+use Rattle.group.specs.Register.{Opening, Call, keep, some, renewed, reportAnswer, farewellAnswer, answer, after, answers, afterAll}
+use Rattle.group.specs.Choosing.{lateness, precedesAll, Choice, choice}
+
+-- group 42, media 7, rate 90,000; N = 1000 s, R = 9,000,000
+abbrev opening : Opening
+opening = record { group = 42; media = 7; rate = 90000 }
+
+abbrev seconds : ℕ → ℕ
+seconds n = n * 2 ^ 32
+
+abbrev reading : Reading
+reading = record { ntp = seconds 1000; rtp = 9000000 }
+
+abbrev port : ℕ → Origin
+port n =
+    record { address = 0 ∷ 0 ∷ 0 ∷ 0 ∷ 0 ∷ 0 ∷ 0 ∷ 0 ∷ 0 ∷ 0 ∷ 255 ∷ 255 ∷ 192 ∷ 0 ∷ 2 ∷ 1 ∷ []; port = n }
+
+abbrev member : ℕ → Origin → ℕ → ℕ → ℕ → Record
+member source origin received rtp presented =
+    record {
+      source = source;
+      origin = origin;
+      report = record {
+        sender = source;
+        «payload_type» = 33;
+        p = true;
+        group = 42;
+        media = 7;
+        received = received;
+        rtp = rtp;
+        presented = presented;
+      };
+    }
+
+abbrev ten : Record
+ten = member 10 (port 5005) (seconds 999) 8910000 0x03E78000
+
+abbrev twenty : Record
+twenty = member 20 (port 5006) (seconds 998) 8820000 0x03E6C000
+
+abbrev twin : Record
+twin = member 10 (port 5007) (seconds 998) 8820000 0x03E6C000
+
+abbrev both : List Call
+both = Call.report ten reading ∷ Call.report twenty reading ∷ []
+
+-- P1 and P2
+p1-p2 :
+    (lateness 90000 (2 ^ 31) (2 ^ 32) 90000 ≡ pos (45000 * 2 ^ 32))
+    × (lateness 90000 (3 * 2 ^ 30) (2 * 2 ^ 32) 180000 ≡ pos (67500 * 2 ^ 32))
+unfolding lateness
+p1-p2 = (refl, refl)
+
+abbrev target20 : Choice
+target20 = Choice.target 20 42 7 (seconds 998) 8820000 (seconds 998 + 0xC0000000) 2
+
+-- with presented 03E7C000 instead, as late as twenty
+abbrev tenLater : Record
+tenLater = member 10 (port 5005) (seconds 999) 8910000 0x03E7C000
+
+abbrev target10 : Choice
+target10 = Choice.target 10 42 7 (seconds 999) 8910000 (seconds 999 + 0xC0000000) 2
+
+-- source 10 from a second port: its report and its farewell
+abbrev fromTwin : List Call
+fromTwin = Call.report twin reading ∷ Call.farewell 10 (port 5007) ∷ []
+
+-- the holder's farewell, twice; then the number is free for the twin
+abbrev farewells : List Call
+farewells = Call.farewell 10 (port 5005) ∷ Call.farewell 10 (port 5005) ∷ Call.report twin reading ∷ []
+
+-- received 998 s is 30 s old at later 0, and a unit of 2^-32 s more at later 1
+abbrev later : ℕ → Reading
+later units = record { ntp = seconds 1028 + units; rtp = 9000000 }
+
+cases :
+    -- P3: 20 chosen, 2 counted
+    (answers opening [] both ≡ 0 ∷ 0 ∷ [])
+    × (choice opening reading (afterAll opening [] both) ≡ target20)
+    -- P4: a tie, 10 chosen
+    × (choice opening reading (tenLater ∷ twenty ∷ []) ≡ target10)
+    -- twins: 14, and nothing changes
+    × (answers opening (ten ∷ twenty ∷ []) fromTwin ≡ 14 ∷ 14 ∷ [])
+    × (afterAll opening (ten ∷ twenty ∷ []) fromTwin ≡ ten ∷ twenty ∷ [])
+    -- farewells: the row goes, 19, and the number is taken again
+    × (answers opening (ten ∷ twenty ∷ []) farewells ≡ 0 ∷ 19 ∷ 0 ∷ [])
+    × (afterAll opening (ten ∷ twenty ∷ []) farewells ≡ twenty ∷ twin ∷ [])
+    -- sweeps at the limit and past it
+    × (after opening (ten ∷ twenty ∷ []) (Call.sweep (later 0)) ≡ ten ∷ twenty ∷ [])
+    × (after opening (ten ∷ twenty ∷ []) (Call.sweep (later 1)) ≡ ten ∷ [])
+    -- 20 where no row is fresh, and without rows
+    × (choice opening (later (seconds 10)) (ten ∷ twenty ∷ []) ≡ Choice.refused 20)
+    × (choice opening reading [] ≡ Choice.refused 20)
+unfolding keep some renewed reportAnswer farewellAnswer answer after answers afterAll lateness precedesAll choice sameBytes sameOrigin ntpAge rtpAge step unwrapped expanded delay
+cases = (refl, refl, refl, refl, refl, refl, refl, refl, refl, refl, refl)

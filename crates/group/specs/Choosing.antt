@@ -1,0 +1,74 @@
+-- Choosing (document 01): the counted rows, their lateness, and the one of greatest lateness.
+use Prim.Native.Nat.{ℕ, _*_, _^_}
+use mathlib.Core.Bool.{Bool, true, not, cond, _&&_, _||_}
+use mathlib.Core.List.{List, [], _∷_}
+use lib.Dec.{leb}
+use lib.IntN.{ℤ, pos, subℕ, _+ℤ_, _*ℤ_}
+use lib.Signed.{leZ, ltZ}
+use lib.ListN.{length}
+use Rattle.times.specs.Times.{ntpAge, rtpAge, delay, expanded}
+use Rattle.group.specs.declared.Record.{Record}
+use Rattle.group.specs.declared.Reading.{Reading}
+use Rattle.group.specs.Register.{Opening, Rows, keep, some, freshAt}
+
+-- lateness, in units of 1/(rate × 2^32) s: rate × (delay − NTP age) + RTP age × 2^32, a signed number
+unfoldable pub lateness : ℕ → ℕ → ℕ → ℕ → ℤ
+lateness rate delay ntpAge rtpAge = pos rate *ℤ subℕ delay ntpAge +ℤ pos (rtpAge * 2 ^ 32)
+
+-- the fresh rows
+abbrev pub fresh : Opening → Reading → Rows → Rows
+fresh o at rows = keep (freshAt o at) rows
+
+abbrev pub presents : Record → Bool
+presents row = row .report .p
+
+-- whether no fresh row has P 1
+abbrev pub isArrival : Opening → Reading → Rows → Bool
+isArrival o at rows = not (some presents (fresh o at rows))
+
+-- the fresh rows whose report has P 1; if there are none, all fresh rows (arrival mode)
+abbrev pub counted : Opening → Reading → Rows → Rows
+counted o at rows = cond (isArrival o at rows) (fresh o at rows) (keep presents (fresh o at rows))
+
+-- a counted row's delay: 0 in arrival mode
+abbrev pub delayOf : Bool → Record → ℕ
+delayOf arrival row = cond arrival 0 (delay (row .report .received) (row .report .presented))
+
+abbrev pub latenessOf : Opening → Reading → Bool → Record → ℤ
+latenessOf o at arrival row =
+    lateness (o .rate) (delayOf arrival row)
+    (ntpAge (at .ntp) (row .report .received))
+    (rtpAge (at .rtp) (row .report .rtp))
+
+-- whether a row goes before another: the greater lateness, and among equals the lower number
+abbrev pub precedes : (Record → ℤ) → Record → Record → Bool
+precedes late a b = ltZ (late b) (late a) || (leZ (late b) (late a) && leb (a .source) (b .source))
+
+-- whether a row precedes each of a list
+unfoldable pub precedesAll : (Record → ℤ) → Record → Rows → Bool
+precedesAll late a [] = true
+precedesAll late a (b ∷ rows) = precedes late a b && precedesAll late a rows
+
+-- the counted row of greatest lateness, and among equals of the lowest number: none where nothing is counted
+abbrev pub chosen : Opening → Reading → Rows → Rows
+chosen o at rows =
+    keep (λ row. precedesAll (latenessOf o at (isArrival o at rows)) row (counted o at rows)) (counted o at rows)
+
+-- the member's number, the settings fields from its own report, and how many were counted; or 20
+pub data Choice : Type 0 where
+  target : (source group media received rtp presented count : ℕ) → Choice
+  refused : ℕ → Choice
+
+-- presented is expanded, or 0 in arrival mode
+abbrev pub targetOf : Opening → Bool → Record → ℕ → Choice
+targetOf o arrival row count =
+    Choice.target (row .source) (o .group) (o .media) (row .report .received) (row .report .rtp)
+    (cond arrival 0 (expanded (row .report .received) (row .report .presented)))
+    count
+
+abbrev pub firstOf : Opening → Bool → ℕ → Rows → Choice
+firstOf o arrival count [] = Choice.refused 20
+firstOf o arrival count (row ∷ rows) = targetOf o arrival row count
+
+unfoldable pub choice : Opening → Reading → Rows → Choice
+choice o at rows = firstOf o (isArrival o at rows) (length (counted o at rows)) (chosen o at rows)
