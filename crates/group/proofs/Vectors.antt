@@ -12,7 +12,7 @@ use Rattle.origin.specs.Origins.{sameBytes, sameOrigin}
 use Rattle.group.specs.declared.Record.{Record}
 use Rattle.group.specs.declared.Reading.{Reading}
 use Rattle.group.specs.Register.{Opening, Call, keep, some, renewed, reportAnswer, farewellAnswer, answer, after, answers, afterAll}
-use Rattle.group.specs.Choosing.{lateness, precedesAll, Choice, choice}
+use Rattle.group.specs.Choosing.{lateness, latenessOf, precedesAll, Choice, choice}
 
 -- group 42, media 7, rate 90,000; N = 1000 s, R = 9,000,000
 abbrev opening : Opening
@@ -57,15 +57,12 @@ twin = member 10 (port 5007) (seconds 998) 8820000 0x03E6C000
 abbrev both : List Call
 both = Call.report ten reading ∷ Call.report twenty reading ∷ []
 
--- P1 and P2
-p1-p2 :
-    (lateness 90000 (2 ^ 31) (2 ^ 32) 90000 ≡ pos (45000 * 2 ^ 32))
-    × (lateness 90000 (3 * 2 ^ 30) (2 * 2 ^ 32) 180000 ≡ pos (67500 * 2 ^ 32))
-unfolding lateness
-p1-p2 = (refl, refl)
-
 abbrev target20 : Choice
 target20 = Choice.target 20 42 7 (seconds 998) 8820000 (seconds 998 + 0xC0000000) 2
+
+-- 20 without a presented time: counted in arrival mode alone
+abbrev silent : Record
+silent = record { source = 20; origin = port 5006; report = record { sender = 20; «payload_type» = 33; p = false; group = 42; media = 7; received = seconds 998; rtp = 8820000; presented = 0 } }
 
 -- with presented 03E7C000 instead, as late as twenty
 abbrev tenLater : Record
@@ -87,11 +84,20 @@ abbrev later : ℕ → Reading
 later units = record { ntp = seconds 1028 + units; rtp = 9000000 }
 
 cases :
+    -- P1 and P2
+    (latenessOf opening reading false ten ≡ pos (45000 * 2 ^ 32))
+    × (latenessOf opening reading false twenty ≡ pos (67500 * 2 ^ 32))
     -- P3: 20 chosen, 2 counted
-    (answers opening [] both ≡ 0 ∷ 0 ∷ [])
+    × (answers opening [] both ≡ 0 ∷ 0 ∷ [])
     × (choice opening reading (afterAll opening [] both) ≡ target20)
     -- P4: a tie, 10 chosen
     × (choice opening reading (tenLater ∷ twenty ∷ []) ≡ target10)
+    -- P 1 before P 0, and arrival mode: as late as its arrival, presented 0
+    × (choice opening reading (ten ∷ silent ∷ []) ≡ Choice.target 10 42 7 (seconds 999) 8910000 (seconds 999 + 2 ^ 31) 1)
+    × (choice opening reading (silent ∷ []) ≡ Choice.target 20 42 7 (seconds 998) 8820000 0 1)
+    × (latenessOf opening reading true silent ≡ pos 0)
+    -- the last accepted report stands
+    × (after opening (ten ∷ twenty ∷ []) (Call.report tenLater reading) ≡ tenLater ∷ twenty ∷ [])
     -- twins: 14, and nothing changes
     × (answers opening (ten ∷ twenty ∷ []) fromTwin ≡ 14 ∷ 14 ∷ [])
     × (afterAll opening (ten ∷ twenty ∷ []) fromTwin ≡ ten ∷ twenty ∷ [])
@@ -105,4 +111,5 @@ cases :
     × (choice opening (later (seconds 10)) (ten ∷ twenty ∷ []) ≡ Choice.refused 20)
     × (choice opening reading [] ≡ Choice.refused 20)
 unfolding keep some renewed reportAnswer farewellAnswer answer after answers afterAll lateness precedesAll choice sameBytes sameOrigin ntpAge rtpAge step unwrapped expanded delay
-cases = (refl, refl, refl, refl, refl, refl, refl, refl, refl, refl, refl)
+cases =
+    (refl, refl, refl, refl, refl, refl, refl, refl, refl, refl, refl, refl, refl, refl, refl, refl, refl)

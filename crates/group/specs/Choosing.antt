@@ -40,7 +40,7 @@ latenessOf o at arrival row =
     (ntpAge (at .ntp) (row .report .received))
     (rtpAge (at .rtp) (row .report .rtp))
 
--- whether a row goes before another: the greater lateness, and among equals the lower number
+-- whether a row is another or goes before it: the greater lateness, and among equals the lower number
 abbrev pub precedes : (Record → ℤ) → Record → Record → Bool
 precedes late a b = ltZ (late b) (late a) || (leZ (late b) (late a) && leb (a .source) (b .source))
 
@@ -49,7 +49,8 @@ unfoldable pub precedesAll : (Record → ℤ) → Record → Rows → Bool
 precedesAll late a [] = true
 precedesAll late a (b ∷ rows) = precedes late a b && precedesAll late a rows
 
--- the counted row of greatest lateness, and among equals of the lowest number: none where nothing is counted
+-- the counted row of greatest lateness, and among equals of the lowest number, as a list: one row where numbers are
+-- distinct, and none where nothing is counted
 abbrev pub chosen : Opening → Reading → Rows → Rows
 chosen o at rows =
     keep (λ row. precedesAll (latenessOf o at (isArrival o at rows)) row (counted o at rows)) (counted o at rows)
@@ -60,15 +61,15 @@ pub data Choice : Type 0 where
   refused : ℕ → Choice
 
 -- presented is expanded, or 0 in arrival mode
-abbrev pub targetOf : Opening → Bool → Record → ℕ → Choice
-targetOf o arrival row count =
-    Choice.target (row .source) (o .group) (o .media) (row .report .received) (row .report .rtp)
+abbrev pub targetOf : Bool → Record → ℕ → Choice
+targetOf arrival row count =
+    Choice.target (row .source) (row .report .group) (row .report .media) (row .report .received) (row .report .rtp)
     (cond arrival 0 (expanded (row .report .received) (row .report .presented)))
     count
 
-abbrev pub firstOf : Opening → Bool → ℕ → Rows → Choice
-firstOf o arrival count [] = Choice.refused 20
-firstOf o arrival count (row ∷ rows) = targetOf o arrival row count
+abbrev pub firstOf : Bool → ℕ → Rows → Choice
+firstOf arrival count [] = Choice.refused 20
+firstOf arrival count (row ∷ rows) = targetOf arrival row count
 
 unfoldable pub choice : Opening → Reading → Rows → Choice
-choice o at rows = firstOf o (isArrival o at rows) (length (counted o at rows)) (chosen o at rows)
+choice o at rows = firstOf (isArrival o at rows) (length (counted o at rows)) (chosen o at rows)
