@@ -2,14 +2,16 @@
 use Prim.Native.Nat.{ℕ, _*_, _^_}
 use mathlib.Core.Bool.{Bool, true, not, cond, _&&_, _||_}
 use mathlib.Core.List.{List, [], _∷_}
-use lib.Dec.{leb}
+use lib.Dec.{leb, eqb}
 use lib.IntN.{ℤ, pos, subℕ, _+ℤ_, _*ℤ_}
 use lib.Signed.{leZ, ltZ}
 use lib.ListN.{length}
 use Rattle.times.specs.Times.{ntpAge, rtpAge, delay, expanded}
-use Rattle.group.specs.declared.Record.{Record}
-use Rattle.group.specs.declared.Reading.{Reading}
-use Rattle.group.specs.Register.{Opening, Rows, keep, some, freshAt}
+use Rattle.register.specs.declared.Record.{Record}
+use Rattle.register.specs.declared.Reading.{Reading}
+use Rattle.register.specs.declared.Target.{Target}
+use Rattle.register.specs.declared.Choice.{Choice}
+use Rattle.register.specs.Register.{Opening, Rows, keep, some, freshAt}
 
 -- lateness, in units of 1/(rate × 2^32) s: rate × (delay − NTP age) + RTP age × 2^32, a signed number
 unfoldable pub lateness : ℕ → ℕ → ℕ → ℕ → ℤ
@@ -55,21 +57,42 @@ abbrev pub chosen : Opening → Reading → Rows → Rows
 chosen o at rows =
     keep (λ row. precedesAll (latenessOf o at (isArrival o at rows)) row (counted o at rows)) (counted o at rows)
 
--- the member's number, the settings fields from its own report, and how many were counted; or 20
-pub data Choice : Type 0 where
-  target : (source group media received rtp presented count : ℕ) → Choice
-  refused : ℕ → Choice
-
--- presented is expanded, or 0 in arrival mode
+-- the member's number, the settings fields from its own report (presented expanded, or 0 in arrival mode), and how many
+-- were counted
 abbrev pub targetOf : Bool → Record → ℕ → Choice
 targetOf arrival row count =
-    Choice.target (row .source) (row .report .group) (row .report .media) (row .report .received) (row .report .rtp)
-    (cond arrival 0 (expanded (row .report .received) (row .report .presented)))
-    count
+    Choice.Target
+    (record {
+      source = row .source;
+      group = row .report .group;
+      media = row .report .media;
+      received = row .report .received;
+      rtp = row .report .rtp;
+      presented = cond arrival 0 (expanded (row .report .received) (row .report .presented));
+      counted = count;
+    })
 
+-- 20 where nothing is counted
 abbrev pub firstOf : Bool → ℕ → Rows → Choice
-firstOf arrival count [] = Choice.refused 20
+firstOf arrival count [] = Choice.Refused 20
 firstOf arrival count (row ∷ rows) = targetOf arrival row count
 
 unfoldable pub choice : Opening → Reading → Rows → Choice
 choice o at rows = firstOf (isArrival o at rows) (length (counted o at rows)) (chosen o at rows)
+
+-- ---- a target as a lateness
+
+-- the delay of the three times in an answer: presented minus received modulo 2^64, or 0 where presented is 0
+abbrev pub delayBetween : ℕ → ℕ → ℕ
+delayBetween received presented = cond (eqb presented 0) 0 (ntpAge presented received)
+
+-- document 01's lateness of our target
+unfoldable pub targetLateness : Opening → Reading → Target → ℤ
+targetLateness o at x =
+    lateness (o .rate) (delayBetween (x .received) (x .presented))
+    (ntpAge (at .ntp) (x .received))
+    (rtpAge (at .rtp) (x .rtp))
+
+-- under a lateness, when the sample whose RTP time is k past R is presented, in units after N
+abbrev pub moment : ℤ → ℤ → ℤ
+moment late k = late +ℤ k *ℤ pos (2 ^ 32)

@@ -1,2 +1,4 @@
 pub mod Register
 pub mod Choosing
+pub mod Leader
+pub mod Promise

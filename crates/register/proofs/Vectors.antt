@@ -9,10 +9,11 @@ use Rattle.times.specs.Times.{ntpAge, rtpAge, step, unwrapped, expanded, delay}
 use Rattle.idms.specs.declared.Report.{Report}
 use Rattle.origin.specs.declared.Origin.{Origin}
 use Rattle.origin.specs.Origins.{sameBytes, sameOrigin}
-use Rattle.group.specs.declared.Record.{Record}
-use Rattle.group.specs.declared.Reading.{Reading}
-use Rattle.group.specs.Register.{Opening, Call, keep, some, renewed, reportAnswer, farewellAnswer, answer, after, answers, afterAll}
-use Rattle.group.specs.Choosing.{lateness, latenessOf, precedesAll, Choice, choice}
+use Rattle.register.specs.declared.Record.{Record}
+use Rattle.register.specs.declared.Reading.{Reading}
+use Rattle.register.specs.Register.{Opening, Call, keep, some, renewed, reportChecks, farewellChecks, answer, after, answers, afterAll}
+use Rattle.register.specs.Choosing.{lateness, latenessOf, precedesAll, choice}
+use Rattle.register.specs.declared.Choice.{Choice}
 
 -- group 42, media 7, rate 90,000; N = 1000 s, R = 9,000,000
 abbrev opening : Opening
@@ -57,8 +58,21 @@ twin = member 10 (port 5007) (seconds 998) 8820000 0x03E6C000
 abbrev both : List Call
 both = Call.report ten reading ∷ Call.report twenty reading ∷ []
 
+abbrev target : (source received rtp presented counted : ℕ) → Choice
+target source received rtp presented counted =
+    Choice.Target
+    (record {
+      source = source;
+      group = 42;
+      media = 7;
+      received = received;
+      rtp = rtp;
+      presented = presented;
+      counted = counted;
+    })
+
 abbrev target20 : Choice
-target20 = Choice.target 20 42 7 (seconds 998) 8820000 (seconds 998 + 0xC0000000) 2
+target20 = target 20 (seconds 998) 8820000 (seconds 998 + 0xC0000000) 2
 
 -- 20 without a presented time: counted in arrival mode alone
 abbrev silent : Record
@@ -69,7 +83,7 @@ abbrev tenLater : Record
 tenLater = member 10 (port 5005) (seconds 999) 8910000 0x03E7C000
 
 abbrev target10 : Choice
-target10 = Choice.target 10 42 7 (seconds 999) 8910000 (seconds 999 + 0xC0000000) 2
+target10 = target 10 (seconds 999) 8910000 (seconds 999 + 0xC0000000) 2
 
 -- source 10 from a second port: its report and its farewell
 abbrev fromTwin : List Call
@@ -93,8 +107,8 @@ cases :
     -- P4: a tie, 10 chosen
     × (choice opening reading (tenLater ∷ twenty ∷ []) ≡ target10)
     -- P 1 before P 0, and arrival mode: as late as its arrival, presented 0
-    × (choice opening reading (ten ∷ silent ∷ []) ≡ Choice.target 10 42 7 (seconds 999) 8910000 (seconds 999 + 2 ^ 31) 1)
-    × (choice opening reading (silent ∷ []) ≡ Choice.target 20 42 7 (seconds 998) 8820000 0 1)
+    × (choice opening reading (ten ∷ silent ∷ []) ≡ target 10 (seconds 999) 8910000 (seconds 999 + 2 ^ 31) 1)
+    × (choice opening reading (silent ∷ []) ≡ target 20 (seconds 998) 8820000 0 1)
     × (latenessOf opening reading true silent ≡ pos 0)
     -- the last accepted report stands
     × (after opening (ten ∷ twenty ∷ []) (Call.report tenLater reading) ≡ tenLater ∷ twenty ∷ [])
@@ -108,8 +122,8 @@ cases :
     × (after opening (ten ∷ twenty ∷ []) (Call.sweep (later 0)) ≡ ten ∷ twenty ∷ [])
     × (after opening (ten ∷ twenty ∷ []) (Call.sweep (later 1)) ≡ ten ∷ [])
     -- 20 where no row is fresh, and without rows
-    × (choice opening (later (seconds 10)) (ten ∷ twenty ∷ []) ≡ Choice.refused 20)
-    × (choice opening reading [] ≡ Choice.refused 20)
-unfolding keep some renewed reportAnswer farewellAnswer answer after answers afterAll lateness precedesAll choice sameBytes sameOrigin ntpAge rtpAge step unwrapped expanded delay
+    × (choice opening (later (seconds 10)) (ten ∷ twenty ∷ []) ≡ Choice.Refused 20)
+    × (choice opening reading [] ≡ Choice.Refused 20)
+unfolding keep some renewed reportChecks farewellChecks answer after answers afterAll lateness precedesAll choice sameBytes sameOrigin ntpAge rtpAge step unwrapped expanded delay
 cases =
     (refl, refl, refl, refl, refl, refl, refl, refl, refl, refl, refl, refl, refl, refl, refl, refl, refl)

@@ -8,8 +8,8 @@ use lib.ListN.{length}
 use Rattle.times.specs.Times.{isFar, isAged, isBadlyPresented, isFresh}
 use Rattle.origin.specs.declared.Origin.{Origin}
 use Rattle.origin.specs.Origins.{sameOrigin}
-use Rattle.group.specs.declared.Record.{Record}
-use Rattle.group.specs.declared.Reading.{Reading}
+use Rattle.register.specs.declared.Record.{Record}
+use Rattle.register.specs.declared.Reading.{Reading}
 
 -- what a register starts for, without rows: a group, a media source and a clock rate
 pub record Opening : Type 0 where
@@ -57,20 +57,32 @@ renewed (row ∷ rows) x = cond (hasNumber (x .source) row) (x ∷ rows) (row �
 
 -- ---- the three calls: a refusal's number, or 0 that there is none
 
--- checks 13 to 18 in order: the first that applies is the answer
-unfoldable pub reportAnswer : Opening → Rows → Record → Reading → ℕ
-reportAnswer o rows x at =
+-- checks 13 to 18 in order: the first that applies is the answer. Check 14 applies where the number is held elsewhere, 18
+-- where there is no room.
+unfoldable pub reportChecks : Opening → Record → Reading → (elsewhere noRoom : Bool) → ℕ
+reportChecks o x at elsewhere noRoom =
     cond (not (eqb (x .report .group) (o .group) && eqb (x .report .media) (o .media))) 13
-    (cond (isHeldElsewhere rows (x .source) (x .origin)) 14
+    (cond elsewhere 14
     (cond (isFar (at .ntp) (x .report .received)) 15
     (cond (isAged (o .rate) (at .rtp) (x .report .rtp)) 16
     (cond (x .report .p && isBadlyPresented (x .report .received) (x .report .presented)) 17
-    (cond (not (some (hasNumber (x .source)) rows) && eqb (length rows) 64) 18
+    (cond noRoom 18
     0)))))
 
-unfoldable pub farewellAnswer : Rows → ℕ → Origin → ℕ
-farewellAnswer rows source origin =
-    cond (not (some (hasNumber source) rows)) 19 (cond (isHeldElsewhere rows source origin) 14 0)
+-- a new member, and 64 rows
+abbrev pub hasNoRoom : Rows → ℕ → Bool
+hasNoRoom rows source = not (some (hasNumber source) rows) && eqb (length rows) 64
+
+abbrev pub reportAnswer : Opening → Rows → Record → Reading → ℕ
+reportAnswer o rows x at =
+    reportChecks o x at (isHeldElsewhere rows (x .source) (x .origin)) (hasNoRoom rows (x .source))
+
+-- a number that no row has gets 19, one whose row has another origin 14
+unfoldable pub farewellChecks : (held elsewhere : Bool) → ℕ
+farewellChecks held elsewhere = cond (not held) 19 (cond elsewhere 14 0)
+
+abbrev pub farewellAnswer : Rows → ℕ → Origin → ℕ
+farewellAnswer rows source origin = farewellChecks (some (hasNumber source) rows) (isHeldElsewhere rows source origin)
 
 unfoldable pub answer : Opening → Rows → Call → ℕ
 answer o rows (Call.report x at) = reportAnswer o rows x at

@@ -1,0 +1,34 @@
+// What a member table and the plain register are told, and what choosing answers.
+use idms::Report;
+use origin::Origin;
+
+// A report with its source number and its origin: what the table is told, and what it holds.
+pub struct Record {
+    pub source: u32,
+    pub origin: Origin,
+    pub report: Report,
+}
+
+// A sender's reading of both clocks: NTP time N and RTP time R.
+pub struct Reading {
+    pub ntp: u64,
+    pub rtp: u32,
+}
+
+// The member to follow: its number, the settings fields from its own report, and how many members were counted.
+// `presented` is 0 in arrival mode.
+pub struct Target {
+    pub source: u32,
+    pub group: u32,
+    pub media: u32,
+    pub received: u64,
+    pub rtp: u32,
+    pub presented: u64,
+    pub counted: u32,
+}
+
+// What choosing answers: a target, or a refusal's number.
+pub enum Choice {
+    Target(Target),
+    Refused(u64),
+}
