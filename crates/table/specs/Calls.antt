@@ -1,0 +1,77 @@
+-- What opening and the three calls answer, and the table that they hand back, for every table whatsoever.
+use Prim.Native.Nat.{ℕ, _+_, _-_, _^_}
+use mathlib.Core.Bool.{Bool, not, cond, _&&_}
+use lib.Dec.{ltb, eqb}
+use lib.ListN.{getD, set}
+use Rattle.origin.specs.declared.Origin.{Origin}
+use Rattle.origin.specs.Origins.{sameOrigin}
+use Rattle.places.specs.Places.{lowestFree}
+use Rattle.register.specs.declared.Record.{Record}
+use Rattle.register.specs.declared.Reading.{Reading}
+use Rattle.register.specs.Register.{Opening, Call, isRefusedOpening, reportChecks, farewellChecks, freshAt}
+use Rattle.table.specs.declared.Table.{Table}
+use Rattle.table.specs.declared.Answered.{Answered}
+use Rattle.table.specs.Members.{openingOf, emptyTable, nowhere, placeIn, keepWord}
+
+-- refused with 12, opening gives no table: an empty one for group, media source and rate 0 stands for it
+unfoldable pub opened : Opening → Answered
+opened o =
+    cond (isRefusedOpening o) (record { number = 12; table = emptyTable (record { group = 0; media = 0; rate = 0 }) })
+    (record { number = 0; table = emptyTable o })
+
+-- ---- a number's place
+
+abbrev pub isMember : Table → ℕ → Bool
+isMember t source = ltb (placeIn t source) 64
+
+-- the number's member has another origin
+abbrev pub isElsewhere : Table → ℕ → Origin → Bool
+isElsewhere t source origin =
+    isMember t source && not (sameOrigin (getD (t .members) (placeIn t source) nowhere .origin) origin)
+
+-- a new member, and 64 places held
+abbrev pub isWithoutRoom : Table → ℕ → Bool
+isWithoutRoom t source = not (isMember t source) && eqb (lowestFree 64 (t .held)) 64
+
+-- ---- what a call answers
+
+unfoldable pub numberOf : Table → Call → ℕ
+numberOf t (Call.report x at) =
+    reportChecks (openingOf t) x at (isElsewhere t (x .source) (x .origin)) (isWithoutRoom t (x .source))
+numberOf t (Call.farewell source origin) = farewellChecks (isMember t source) (isElsewhere t source origin)
+numberOf t (Call.sweep at) = 0
+
+-- ---- what a call leaves
+
+-- other places held
+abbrev pub withHeld : Table → ℕ → Table
+withHeld t word =
+    record { group = t .group; media = t .media; rate = t .rate; held = word; members = t .members }
+
+-- a record at a place
+abbrev pub withMember : Table → ℕ → Record → Table
+withMember t place x =
+    record { group = t .group; media = t .media; rate = t .rate; held = t .held; members = set (t .members) place x }
+
+-- an accepted report stands at its number's place, or at the lowest free one, which is held from now on
+unfoldable pub filed : Table → Record → Table
+filed t x =
+    cond (isMember t (x .source)) (withMember t (placeIn t (x .source)) x)
+    (withMember (withHeld t (t .held + 2 ^ lowestFree 64 (t .held))) (lowestFree 64 (t .held)) x)
+
+abbrev pub acceptedBy : Table → Call → Table
+acceptedBy t (Call.report x at) = filed t x
+acceptedBy t (Call.farewell source origin) = withHeld t (t .held - 2 ^ placeIn t source)
+acceptedBy t (Call.sweep at) = withHeld t (keepWord (freshAt (openingOf t) at) (t .held) (t .members))
+
+-- what a refusal leaves, whatever its number: the table as it was
+abbrev pub refusedBy : Table → ℕ → Call → Table
+refusedBy t number call = t
+
+-- the answer with the table afterwards
+unfoldable pub answered : Table → Call → Answered
+answered t call =
+    record {
+      number = numberOf t call;
+      table = cond (eqb (numberOf t call) 0) (acceptedBy t call) (refusedBy t (numberOf t call) call);
+    }

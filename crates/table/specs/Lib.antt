@@ -1,0 +1,4 @@
+pub mod Members
+pub mod Calls
+pub mod Choose
+pub mod History

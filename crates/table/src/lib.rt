@@ -1,0 +1,33 @@
+// The member table of one synchronization group: 64 places, and one word that marks those held.
+use idms::Report;
+use origin::Origin;
+use register::Choice;
+use register::Reading;
+use register::Record;
+
+// A table for one group, media source and clock rate. The lowest digit of `held` marks the first place.
+pub struct Table {
+    group: u32,
+    media: u32,
+    rate: u32,
+    held: u64,
+    members: [Record; 64],
+}
+
+// A refusal's number, or 0 that there is none, and the table afterwards.
+pub struct Answered {
+    pub number: u64,
+    pub table: Table,
+}
+
+// What choosing answers, and the table as it was.
+pub struct Chosen {
+    pub choice: Choice,
+    pub table: Table,
+}
+
+// The member at a place. Where none is held there, `held` is false and `member` a record of zeros.
+pub struct Seat {
+    pub held: bool,
+    pub member: Record,
+}
