@@ -46,6 +46,12 @@ pub struct Refusal {
     pub place: usize,
 }
 
+// What reading gives at an index: the item there, or the refusal.
+pub enum Found {
+    Item(Placed),
+    Refused(Refusal),
+}
+
 // How many numbers a row has.
 pub const ROW: usize = 10;
 

@@ -5,7 +5,7 @@ use Rattle.idms.specs.Rows.{fieldOf}
 use Rattle.idms.specs.declared.Field.{Field}
 use Rattle.idms.specs.declared.Refusal.{Refusal}
 use Rattle.rtcp.specs.declared.walk.Count.{Count}
-use Rattle.rtcp.specs.declared.walk.Found.{Found}
+use Rattle.idms.specs.declared.Found.{Found}
 use Rattle.rtcp.specs.Refusals.{noSuchItem}
 use Rattle.prunepocket.specs.declared.Answer.{Answer}
 

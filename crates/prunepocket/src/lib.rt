@@ -1,11 +1,11 @@
 // Every function that C and Rust call, under the names of include/prunepocket.h. Each is thin: it calls a proved
 // function of a crate below and hands its answer on as plain numbers.
+use idms::Found;
 use idms::Field;
 use idms::Refusal;
 use idms::Report;
 use idms::Settings;
 use rtcp::Count;
-use rtcp::Found;
 use writer::Written;
 ghost use mathlib.Core.Path.{_≡_};
 ghost use Rattle.idms.specs.Rows.{fieldOf};

@@ -11,7 +11,7 @@ use borrow.Author.Tests.{ltb-true, ltb-false, eqb-true, eqb-false}
 use Rattle.idms.specs.declared.Placed.{Placed}
 use Rattle.idms.specs.declared.Refusal.{Refusal}
 use Rattle.rtcp.specs.declared.walk.Count.{Count}
-use Rattle.rtcp.specs.declared.walk.Found.{Found}
+use Rattle.idms.specs.declared.Found.{Found}
 use Rattle.rtcp.specs.Refusals.{Check, passed, refused, refuseIf, andThen}
 use Rattle.rtcp.specs.Walk.{walking, walk, checks}
 use Rattle.rtcp.specs.Packet.{version, packetType, count, size, content, paddingIsBad, contentIsShort, opens, byType, headCheck}

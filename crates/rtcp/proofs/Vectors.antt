@@ -7,7 +7,7 @@ use Rattle.idms.specs.declared.Report.{Report}
 use Rattle.idms.specs.declared.Settings.{Settings}
 use Rattle.idms.specs.declared.Item.{Item}
 use Rattle.rtcp.specs.declared.walk.Count.{Count}
-use Rattle.rtcp.specs.declared.walk.Found.{Found}
+use Rattle.idms.specs.declared.Found.{Found}
 use Rattle.rtcp.specs.Bytes.{be16, be32, be64}
 use Rattle.rtcp.specs.Walk.{walking, walk}
 use Rattle.rtcp.specs.Packet.{paddingIsBad, content, byType, contentIsShort, headCheck}

@@ -16,6 +16,5 @@ pub use cursor::next_item;
 pub use cursor::open_datagram;
 pub use rows::read_rows;
 pub use walk::Count;
-pub use walk::Found;
 pub use walk::count_items;
 pub use walk::item_at;

@@ -6,6 +6,7 @@ use crate::packet::head_at;
 use crate::packet::packet_size;
 use crate::report::Block;
 use crate::report::block_at;
+use idms::Found;
 use idms::Placed;
 use idms::Refusal;
 ghost use mathlib.Core.Path.{_≡_};
@@ -25,12 +26,6 @@ const NO_SUCH_ITEM: u64 = 9;
 // How many items a datagram has, or its refusal.
 pub enum Count {
     Items(usize),
-    Refused(Refusal),
-}
-
-// The item at an index, or the refusal.
-pub enum Found {
-    Item(Placed),
     Refused(Refusal),
 }
 

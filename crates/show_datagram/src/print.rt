@@ -1,5 +1,6 @@
 // Prints what the reader answers to standard output: a line for a refusal, a count or an item, its numbers in decimal.
 // No contract can say what is written, so these functions have none: they are proved to be safe and to end.
+use idms::Found;
 use idms::Item;
 use idms::Placed;
 use idms::Refusal;
@@ -7,7 +8,6 @@ use idms::Report;
 use idms::Settings;
 use libc::STDOUT_FILENO;
 use rtcp::Cursor;
-use rtcp::Found;
 use rtcp::Opened;
 use rtcp::Step;
 

@@ -1,4 +1,5 @@
 pub mod Members
 pub mod Calls
 pub mod Choose
+pub mod Intake
 pub mod History

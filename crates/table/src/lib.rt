@@ -1,8 +1,6 @@
 // The member table of one synchronization group: 64 places, and one word that marks those held.
-use idms::Report;
-use origin::Origin;
+use idms::Refusal;
 use register::Choice;
-use register::Reading;
 use register::Record;
 
 // A table for one group, media source and clock rate. The lowest digit of `held` marks the first place.
@@ -30,4 +28,18 @@ pub struct Chosen {
 pub struct Seat {
     pub held: bool,
     pub member: Record,
+}
+
+// What became of an item that the reader answered with: the number of its call, passed by because it is no call, or
+// refused by the reader.
+pub enum Outcome {
+    Number(u64),
+    Passed,
+    Refused(Refusal),
+}
+
+// What became of an item, and the table afterwards.
+pub struct Taken {
+    pub outcome: Outcome,
+    pub table: Table,
 }

@@ -14,7 +14,7 @@ use Rattle.idms.specs.declared.Report.{Report}
 use Rattle.idms.specs.declared.Settings.{Settings}
 use Rattle.idms.specs.declared.Item.{Item}
 use Rattle.idms.specs.declared.Placed.{Placed}
-use Rattle.rtcp.specs.declared.walk.Found.{Found}
+use Rattle.idms.specs.declared.Found.{Found}
 use Rattle.rtcp.specs.Refusals.{Check, passed, refused}
 use Rattle.rtcp.specs.Bytes.{byte, be16, be32, be64}
 use Rattle.rtcp.specs.Packet.{version, packetType}

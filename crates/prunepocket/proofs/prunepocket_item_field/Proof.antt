@@ -4,7 +4,7 @@ use borrow.Author.Needs.{needs}
 use Rattle.idms.specs.Rows.{fieldOf}
 use Rattle.idms.specs.declared.Field.{Field}
 use Rattle.rtcp.specs.Answers.{itemOf}
-use Rattle.rtcp.specs.declared.walk.Found.{Found}
+use Rattle.idms.specs.declared.Found.{Found}
 use Rattle.prunepocket.specs.Answers.{fieldAnswer, fieldAfter, cellAnswer, cellAfter}
 use Rattle.prunepocket.proofs.prunepocket_item_field.Statement.{statement}
 use Rattle.prunepocket.proofs.prunepocket_item_field.Tie as tie

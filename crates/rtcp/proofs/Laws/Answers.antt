@@ -10,7 +10,7 @@ use borrow.Author.Tests.{eqb-true, not-false, lt-ltb, le-ltb}
 use Rattle.idms.specs.declared.Placed.{Placed}
 use Rattle.idms.specs.declared.Refusal.{Refusal}
 use Rattle.rtcp.specs.declared.walk.Count.{Count}
-use Rattle.rtcp.specs.declared.walk.Found.{Found}
+use Rattle.idms.specs.declared.Found.{Found}
 use Rattle.rtcp.specs.declared.cursor.Opened.{Opened}
 use Rattle.rtcp.specs.Refusals.{Check, passed, refused, refuseIf}
 use Rattle.rtcp.specs.Datagram.{packetsCheck, packetsItems, lengthIsBad, datagramCheck, datagramItems}

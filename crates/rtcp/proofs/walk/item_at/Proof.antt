@@ -2,7 +2,7 @@
 use mathlib.Core.Path.{sym, ap, _∙_}
 use native.Mathlib.Omega.{arith}
 use borrow.Author.Needs.{needs}
-use Rattle.rtcp.specs.declared.walk.Found.{Found}
+use Rattle.idms.specs.declared.Found.{Found}
 use Rattle.rtcp.proofs.Laws.Answers.{count-passed, count-refused, item-refused, item-past, item-there}
 use Rattle.rtcp.proofs.walk.item_at.Statement.{statement}
 use Rattle.rtcp.proofs.walk.item_at.Tie as tie
