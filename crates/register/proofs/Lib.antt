@@ -1,2 +1,3 @@
+pub mod Permuted
 pub mod Rows
 pub mod Vectors

@@ -1,0 +1,321 @@
+-- The register's calls and choosing respect a permutation of rows with distinct numbers: a call asks of the rows only
+-- what a permutation keeps, and of the rows chosen any two precede each other, so that there is one at most.
+use Prim.Native.Nat.{ℕ, _≤_}
+use mathlib.Core.Bool.{Bool, true, false, not, cond, _&&_, _||_}
+use mathlib.Core.List.{[], _∷_, List·Memᴰ, List·Memᴰ·head, List·Memᴰ·tail, List·Permᴰ, List·Permᴰ·nil, List·Permᴰ·cons, List·Permᴰ·swap, List·Permᴰ·trans, Permᴰ·refl, Permᴰ·symm}
+use mathlib.Core.Path.{_≡_, refl, ap, _∙_}
+use lib.Dec.{T, leb, eqb, le→leb, ltb→lt}
+use lib.IntN.{ℤ, pos, negsuc}
+use lib.ListN.{length}
+use lib.Signed.{leZ, ltZ, _≤ℤ_, leZ-yes, ltZ-yes, clashℤ}
+use native.Mathlib.Nat.{le-of-lt}
+use native.Mathlib.Omega.{arith}
+use borrow.Author.Tests.{eqb-true, eq-eqb, leb-true}
+use Rattle.origin.specs.declared.Origin.{Origin}
+use Rattle.origin.specs.Origins.{sameOrigin}
+use Rattle.register.specs.declared.Record.{Record}
+use Rattle.register.specs.declared.Reading.{Reading}
+use Rattle.register.specs.declared.Choice.{Choice}
+use Rattle.register.specs.Register.{Opening, Rows, Call, keep, some, hasNumber, isHeldElsewhere, hasNoRoom, renewed, reportChecks, farewellChecks, answer, freshAt, accepted, after}
+use Rattle.register.specs.Choosing.{fresh, presents, isArrival, counted, latenessOf, precedes, precedesAll, firstOf, choice}
+use Rattle.register.specs.Promise.{Unique}
+use Rattle.register.proofs.Rows.{clash, keep-yes, keep-no, length-permuted, some-permuted, keep-permuted, cond-permuted, short-permuted, some-keep, some-and-none, none-kept, length-keep-cons, length-keep-keep, keep-cong, keep-not-none, keep-all, kept-member}
+
+-- ---- distinct numbers
+
+pub unique-permuted : {rows rows′ : Rows} → List·Permᴰ rows rows′ → Unique rows → Unique rows′
+unique-permuted d u source = omega (arith, u source, length-permuted (keep-permuted (hasNumber source) d))
+
+pub unique-keep : (test : Record → Bool) (rows : Rows) → Unique rows → Unique (keep test rows)
+unique-keep test rows u source = omega (arith, u source, length-keep-keep (hasNumber source) test rows)
+
+pub unique-rest : (r : Record) (rows : Rows) → Unique (r ∷ rows) → Unique rows
+unique-rest r rows u source = omega (arith, u source, length-keep-cons (hasNumber source) r rows)
+
+-- the first row's number is in no other
+none-after :
+    (source : ℕ) (r : Record) (rows : Rows) → Unique (r ∷ rows) → hasNumber source r ≡ true →
+    some (hasNumber source) rows ≡ false
+none-after source r rows u e =
+    none-kept
+    (hasNumber source)
+    rows
+    (omega (arith, u source, ap length (keep-yes (hasNumber source) r rows e)))
+
+own-number : (r : Record) → hasNumber (r .source) r ≡ true
+own-number r = eq-eqb (r .source) (r .source) refl
+
+pub unique-tail : (r : Record) (rows : Rows) → Unique (r ∷ rows) → some (hasNumber (r .source)) rows ≡ false
+unique-tail r rows u = none-after (r .source) r rows u (own-number r)
+
+pub without-own :
+    (r : Record) (rows : Rows) → Unique (r ∷ rows) → keep (λ row. not (hasNumber (r .source) row)) (r ∷ rows) ≡ rows
+without-own r rows u =
+    keep-no (λ row. not (hasNumber (r .source) row)) r rows (ap not (own-number r))
+    ∙ some-keep (hasNumber (r .source)) rows (unique-tail r rows u)
+
+or-none : (s t : Bool) → t ≡ false → (s || t) ≡ s
+or-none true t e = refl
+or-none false t e = e
+
+pub elsewhere-own :
+    (r : Record) (rows : Rows) → Unique (r ∷ rows) → (origin : Origin) →
+    isHeldElsewhere (r ∷ rows) (r .source) origin ≡ not (sameOrigin (r .origin) origin)
+unfolding some
+elsewhere-own r rows u origin =
+    or-none
+    (hasNumber (r .source) r && not (sameOrigin (r .origin) origin))
+    (isHeldElsewhere rows (r .source) origin)
+    (some-and-none
+    (hasNumber (r .source))
+    (λ row. not (sameOrigin (row .origin) origin))
+    rows
+    (unique-tail r rows u))
+    ∙ ap (λ (t : Bool). t && not (sameOrigin (r .origin) origin)) (own-number r)
+
+-- ---- calls
+
+-- the rows of other numbers
+abbrev others : Record → Rows → Rows
+others x rows = keep (λ row. not (hasNumber (x .source) row)) rows
+
+-- the rows that an accepted report leaves are its own before those of other numbers
+pub renewed-form :
+    (rows : Rows) → Unique rows → (x : Record) →
+    List·Permᴰ (renewed rows x) (x ∷ keep (λ row. not (hasNumber (x .source) row)) rows)
+unfolding renewed keep
+renewed-form [] u x = Permᴰ·refl (x ∷ [])
+renewed-form (r ∷ rows) u x = go (hasNumber (x .source) r) refl (renewed-form rows (unique-rest r rows u) x)
+  where
+    go :
+        (t : Bool) → hasNumber (x .source) r ≡ t → List·Permᴰ (renewed rows x) (x ∷ others x rows) →
+        List·Permᴰ (cond t (x ∷ rows) (r ∷ renewed rows x)) (x ∷ cond (not t) (r ∷ others x rows) (others x rows))
+    go true e rest =
+        rw (some-keep (hasNumber (x .source)) rows (none-after (x .source) r rows u e)) (Permᴰ·refl (x ∷ rows))
+    go false e rest = List·Permᴰ·trans (List·Permᴰ·cons refl rest) (List·Permᴰ·swap refl refl)
+
+pub answer-permuted :
+    (o : Opening) (call : Call) {rows rows′ : Rows} → List·Permᴰ rows rows′ → answer o rows call ≡ answer o rows′ call
+unfolding answer
+answer-permuted o (Call.report x at) {rows} {rows′} d =
+    let held : _ = some-permuted (hasNumber (x .source)) d in
+    let elsewhere : isHeldElsewhere rows (x .source) (x .origin) ≡ isHeldElsewhere rows′ (x .source) (x .origin) =
+    some-permuted _ d in
+    let noRoom : hasNoRoom rows (x .source) ≡ hasNoRoom rows′ (x .source) =
+    ap (λ (t : Bool). not t && eqb (length rows) 64) held
+    ∙ ap (λ (n : ℕ). not (some (hasNumber (x .source)) rows′) && eqb n 64) (length-permuted d) in
+    ap (λ (t : Bool). reportChecks o x at t (hasNoRoom rows (x .source))) elsewhere
+    ∙ ap (reportChecks o x at (isHeldElsewhere rows′ (x .source) (x .origin))) noRoom
+answer-permuted o (Call.farewell source origin) {rows} {rows′} d =
+    ap (λ (t : Bool). farewellChecks t (isHeldElsewhere rows source origin)) (some-permuted (hasNumber source) d)
+    ∙ ap (farewellChecks (some (hasNumber source) rows′)) (some-permuted _ d)
+answer-permuted o (Call.sweep at) d = refl
+
+accepted-permuted :
+    (o : Opening) (call : Call) {rows rows′ : Rows} → List·Permᴰ rows rows′ → Unique rows →
+    List·Permᴰ (accepted o rows call) (accepted o rows′ call)
+accepted-permuted o (Call.report x at) {rows} {rows′} d u =
+    List·Permᴰ·trans
+    (renewed-form rows u x)
+    (List·Permᴰ·trans
+    (List·Permᴰ·cons refl (keep-permuted (λ row. not (hasNumber (x .source) row)) d))
+    (Permᴰ·symm (renewed-form rows′ (unique-permuted d u) x)))
+accepted-permuted o (Call.farewell source origin) d u = keep-permuted (λ row. not (hasNumber source row)) d
+accepted-permuted o (Call.sweep at) d u = keep-permuted (freshAt o at) d
+
+pub after-permuted :
+    (o : Opening) (call : Call) {rows rows′ : Rows} → List·Permᴰ rows rows′ → Unique rows →
+    List·Permᴰ (after o rows call) (after o rows′ call)
+unfolding after
+after-permuted o call {rows} {rows′} d u =
+    rw (answer-permuted o call d)
+    (cond-permuted (eqb (answer o rows′ call) 0) (accepted-permuted o call d u) d)
+
+unique-first : (x : Record) (rows : Rows) → Unique rows → Unique (x ∷ others x rows)
+unique-first x rows u source = go (hasNumber source x) refl
+  where
+    go : (t : Bool) → hasNumber source x ≡ t → length (keep (hasNumber source) (x ∷ others x rows)) ≤ 1
+    go true e =
+        let same : x .source ≡ source = eqb-true (x .source) source e in
+        let none : keep (hasNumber source) (others x rows) ≡ [] =
+        rw (← same) (keep-not-none (hasNumber (x .source)) rows) in
+        omega (arith, ap length (keep-yes (hasNumber source) x (others x rows) e), ap length none)
+    go false e =
+        let short : _ = unique-keep (λ row. not (hasNumber (x .source) row)) rows u source in
+        omega (arith, short, ap length (keep-no (hasNumber source) x (others x rows) e))
+
+unique-accepted : (o : Opening) (call : Call) (rows : Rows) → Unique rows → Unique (accepted o rows call)
+unique-accepted o (Call.report x at) rows u =
+    unique-permuted (Permᴰ·symm (renewed-form rows u x)) (unique-first x rows u)
+unique-accepted o (Call.farewell source origin) rows u = unique-keep (λ row. not (hasNumber source row)) rows u
+unique-accepted o (Call.sweep at) rows u = unique-keep (freshAt o at) rows u
+
+unique-cond : (t : Bool) (xs ys : Rows) → Unique xs → Unique ys → Unique (cond t xs ys)
+unique-cond true xs ys u v = u
+unique-cond false xs ys u v = v
+
+pub unique-after : (o : Opening) (call : Call) (rows : Rows) → Unique rows → Unique (after o rows call)
+unfolding after
+unique-after o call rows u =
+    unique-cond (eqb (answer o rows call) 0) (accepted o rows call) rows (unique-accepted o call rows u) u
+
+-- ---- two rows that precede each other have one number
+
+lt-le : (x y : ℤ) → T (ltZ x y) → T (leZ x y)
+lt-le (pos a) (pos b) t = le→leb a b (le-of-lt (ltb→lt a b t))
+lt-le (pos a) (negsuc b) t = t
+lt-le (negsuc a) (pos b) t = tt
+lt-le (negsuc a) (negsuc b) t = le→leb b a (le-of-lt (ltb→lt b a t))
+
+-- of a test such as that of `precedes`, `s` the less, `u` the less or equal and `t` the numbers
+second-true : (s u t : Bool) → (s || (u && t)) ≡ true → (T s → T u) → T u
+second-true true u t e first = first tt
+second-true false true t e first = tt
+second-true false false t e first = clash e
+
+last-true : (s u t : Bool) → (s || (u && t)) ≡ true → (T s → ⊥) → t ≡ true
+last-true true u t e never = absurd (never tt)
+last-true false true t e never = e
+last-true false false t e never = clash e
+
+precedes-le : (late : Record → ℤ) (a b : Record) → precedes late a b ≡ true → late b ≤ℤ late a
+precedes-le late a b e =
+    leZ-yes
+    (second-true
+    (ltZ (late b) (late a))
+    (leZ (late b) (late a))
+    (leb (a .source) (b .source))
+    e
+    (lt-le (late b) (late a)))
+
+precedes-number :
+    (late : Record → ℤ) (a b : Record) → precedes late a b ≡ true → late a ≤ℤ late b → a .source ≤ b .source
+precedes-number late a b e h =
+    leb-true
+    (a .source)
+    (b .source)
+    (last-true
+    (ltZ (late b) (late a))
+    (leZ (late b) (late a))
+    (leb (a .source) (b .source))
+    e
+    (λ t. clashℤ (ltZ-yes t) h))
+
+pub precedes-both :
+    (late : Record → ℤ) (a b : Record) → precedes late a b ≡ true → precedes late b a ≡ true → a .source ≡ b .source
+precedes-both late a b e f =
+    omega
+    (arith, precedes-number late a b e (precedes-le late b a f), precedes-number late b a f (precedes-le late a b e))
+
+-- ---- choosing
+
+and-true : (s t : Bool) → (s && t) ≡ true → (s ≡ true) × (t ≡ true)
+and-true true t e = (refl, e)
+and-true false t e = clash e
+
+and-swap : (s t u : Bool) → (s && (t && u)) ≡ (t && (s && u))
+and-swap true t u = refl
+and-swap false true u = refl
+and-swap false false u = refl
+
+pub precedes-all-permuted :
+    (late : Record → ℤ) (a : Record) {rows rows′ : Rows} → List·Permᴰ rows rows′ →
+    precedesAll late a rows ≡ precedesAll late a rows′
+unfolding precedesAll
+precedes-all-permuted late a List·Permᴰ·nil = refl
+precedes-all-permuted late a (List·Permᴰ·cons {b = y} {l₁ = l₁} e d) =
+    ap (λ (x : Record). precedes late a x && precedesAll late a l₁) e
+    ∙ ap (λ (t : Bool). precedes late a y && t) (precedes-all-permuted late a d)
+precedes-all-permuted late a (List·Permᴰ·swap {a′ = y} {b′ = x} {l = l} e₁ e₂) =
+    rw (e₁, e₂) (and-swap (precedes late a x) (precedes late a y) (precedesAll late a l))
+precedes-all-permuted late a (List·Permᴰ·trans d₁ d₂) =
+    precedes-all-permuted late a d₁ ∙ precedes-all-permuted late a d₂
+
+pub precedes-member :
+    (late : Record → ℤ) (a b : Record) (rows : Rows) → precedesAll late a rows ≡ true → List·Memᴰ b rows →
+    precedes late a b ≡ true
+unfolding precedesAll
+precedes-member late a b (r ∷ rows) e (List·Memᴰ·head q) =
+    ap (precedes late a) q ∙ and-true (precedes late a r) (precedesAll late a rows) e .0
+precedes-member late a b (r ∷ rows) e (List·Memᴰ·tail m) =
+    precedes-member late a b rows (and-true (precedes late a r) (precedesAll late a rows) e .1) m
+
+-- rows of one number
+one-number-short :
+    (rows : Rows) → Unique rows →
+    ((a b : Record) → List·Memᴰ a rows → List·Memᴰ b rows → b .source ≡ a .source) →
+    length rows ≤ 1
+one-number-short [] u same = omega arith
+one-number-short (a ∷ rows) u same =
+    let all : keep (hasNumber (a .source)) (a ∷ rows) ≡ a ∷ rows =
+    keep-all (hasNumber (a .source)) (a ∷ rows)
+    (λ b m. eq-eqb (b .source) (a .source) (same a b (List·Memᴰ·head refl) m)) in
+    omega (arith, u (a .source), ap length all)
+
+-- the rows of a list that precede each of it
+abbrev first : (Record → ℤ) → Rows → Rows
+first late rows = keep (λ row. precedesAll late row rows) rows
+
+first-short : (late : Record → ℤ) (rows : Rows) → Unique rows → length (first late rows) ≤ 1
+first-short late rows u =
+    one-number-short
+    (first late rows)
+    (unique-keep (λ row. precedesAll late row rows) rows u)
+    (λ a b m n.
+    let foundA : _ = kept-member (λ row. precedesAll late row rows) a rows m in
+    let foundB : _ = kept-member (λ row. precedesAll late row rows) b rows n in
+    precedes-both late b a
+    (precedes-member late b a rows (foundB .0) (foundA .1))
+    (precedes-member late a b rows (foundA .0) (foundB .1)))
+
+first-permuted :
+    (late : Record → ℤ) {rows rows′ : Rows} → List·Permᴰ rows rows′ → Unique rows → first late rows ≡ first late rows′
+first-permuted late {rows} {rows′} d u =
+    short-permuted (keep-permuted (λ row. precedesAll late row rows) d) (first-short late rows u)
+    ∙ keep-cong
+    (λ row. precedesAll late row rows)
+    (λ row. precedesAll late row rows′)
+    rows′
+    (λ row. precedes-all-permuted late row d)
+
+pub arrival-permuted :
+    (o : Opening) (at : Reading) {rows rows′ : Rows} → List·Permᴰ rows rows′ →
+    isArrival o at rows ≡ isArrival o at rows′
+arrival-permuted o at d = ap not (some-permuted presents (keep-permuted (freshAt o at) d))
+
+pub counted-permuted :
+    (o : Opening) (at : Reading) {rows rows′ : Rows} → List·Permᴰ rows rows′ →
+    List·Permᴰ (counted o at rows) (counted o at rows′)
+counted-permuted o at {rows} {rows′} d =
+    rw (arrival-permuted o at d)
+    (cond-permuted
+    (isArrival o at rows′)
+    (keep-permuted (freshAt o at) d)
+    (keep-permuted presents (keep-permuted (freshAt o at) d)))
+
+pub unique-counted : (o : Opening) (at : Reading) (rows : Rows) → Unique rows → Unique (counted o at rows)
+unique-counted o at rows u =
+    let freshOnes : Unique (fresh o at rows) = unique-keep (freshAt o at) rows u in
+    unique-cond
+    (isArrival o at rows)
+    (fresh o at rows)
+    (keep presents (fresh o at rows))
+    freshOnes
+    (unique-keep presents (fresh o at rows) freshOnes)
+
+-- choosing from counted rows
+abbrev chosenOf : Opening → Reading → Bool → Rows → Choice
+chosenOf o at arrival rows = firstOf arrival (length rows) (first (latenessOf o at arrival) rows)
+
+pub choice-permuted :
+    (o : Opening) (at : Reading) {rows rows′ : Rows} → List·Permᴰ rows rows′ → Unique rows →
+    choice o at rows ≡ choice o at rows′
+unfolding choice
+choice-permuted o at {rows} {rows′} d u =
+    let among : List·Permᴰ (counted o at rows) (counted o at rows′) = counted-permuted o at d in
+    let late : _ = latenessOf o at (isArrival o at rows) in
+    ap (λ (n : ℕ). firstOf (isArrival o at rows) n (first late (counted o at rows))) (length-permuted among)
+    ∙ ap
+    (firstOf (isArrival o at rows) (length (counted o at rows′)))
+    (first-permuted late among (unique-counted o at rows u))
+    ∙ ap (λ (t : Bool). chosenOf o at t (counted o at rows′)) (arrival-permuted o at d)
