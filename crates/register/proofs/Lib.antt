@@ -1,3 +1,6 @@
-pub mod Permuted
 pub mod Rows
+pub mod Permuted
+pub mod Order
+pub mod Leading
+pub mod Promised
 pub mod Vectors
