@@ -137,13 +137,13 @@ full-step k word held false e within rest =
     let odd : word % 2 ≡ 0 → ⊥ = eqb-false (word % 2) 0 e in
     eqb-same (lowestFree (suc k) word) (suc k) (word % 2 + held) (suc k)
     (λ z.
-      let same : lowestFree k (word / 2) ≡ k = omega (arith, z, free-above k word e) in
-      let all : held ≡ k = eqb-true held k (sym rest ∙ eq-eqb (lowestFree k (word / 2)) k same) in
-      omega (arith, odd, all))
+    let same : lowestFree k (word / 2) ≡ k = omega (arith, z, free-above k word e) in
+    let all : held ≡ k = eqb-true held k (sym rest ∙ eq-eqb (lowestFree k (word / 2)) k same) in
+    omega (arith, odd, all))
     (λ z.
-      let all : held ≡ k = omega (arith, z, odd) in
-      let same : lowestFree k (word / 2) ≡ k = eqb-true (lowestFree k (word / 2)) k (rest ∙ eq-eqb held k all) in
-      omega (arith, free-above k word e, same))
+    let all : held ≡ k = omega (arith, z, odd) in
+    let same : lowestFree k (word / 2) ≡ k = eqb-true (lowestFree k (word / 2)) k (rest ∙ eq-eqb held k all) in
+    omega (arith, free-above k word e, same))
 
 -- no place is free exactly where as many are held as there are places
 pub full-held : (k word : ℕ) → eqb (lowestFree k word) k ≡ eqb (heldIn k word) k

@@ -1,2 +1,4 @@
 pub mod Seats
 pub mod Agreement
+pub mod Following
+pub mod Demand

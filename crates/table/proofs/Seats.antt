@@ -27,11 +27,11 @@ not-no false e = clash (sym e)
 
 -- ---- one place more
 
-rows-free : (word : ℕ) (m : Record) (ms : Rows) → isFree word ≡ true → rowsAt word (m ∷ ms) ≡ rowsAt (word / 2) ms
+pub rows-free : (word : ℕ) (m : Record) (ms : Rows) → isFree word ≡ true → rowsAt word (m ∷ ms) ≡ rowsAt (word / 2) ms
 unfolding rowsAt
 rows-free word m ms e = rw e refl
 
-rows-held : (word : ℕ) (m : Record) (ms : Rows) → isFree word ≡ false → rowsAt word (m ∷ ms) ≡ m ∷ rowsAt (word / 2) ms
+pub rows-held : (word : ℕ) (m : Record) (ms : Rows) → isFree word ≡ false → rowsAt word (m ∷ ms) ≡ m ∷ rowsAt (word / 2) ms
 unfolding rowsAt
 rows-held word m ms e = rw e refl
 
