@@ -1,26 +1,24 @@
 -- Demand 3, one theorem: by induction over the calls, table and register answer alike and stay in agreement; choosing on
 -- the table is then the register's choice, whatever the order of rows.
-use Prim.Native.Nat.{ℕ, _≤_}
-use mathlib.Core.Bool.{Bool, true, false, cond}
-use mathlib.Core.List.{List, [], _∷_, List·Permᴰ, Permᴰ·refl, Permᴰ·symm}
-use mathlib.Core.Path.{_≡_, refl, sym, ap, _∙_}
-use lib.ListN.{length, length-replicate}
+use Prim.Native.Nat.{ℕ}
+use mathlib.Core.Bool.{Bool, true, false}
+use mathlib.Core.List.{List, [], _∷_, Permᴰ·refl, Permᴰ·symm}
+use mathlib.Core.Path.{_≡_, refl, ap, _∙_}
+use lib.ListN.{length-replicate}
 use native.Mathlib.Omega.{arith}
-use Rattle.register.specs.declared.Record.{Record}
 use Rattle.register.specs.declared.Reading.{Reading}
 use Rattle.register.specs.declared.Choice.{Choice}
 use Rattle.register.specs.Register.{Opening, Rows, Call, isRefusedOpening, keep, answer, after, answers, afterAll}
 use Rattle.register.specs.Choosing.{choice}
-use Rattle.register.specs.Promise.{Unique, AllInRange}
+use Rattle.register.specs.Promise.{AllInRange}
 use Rattle.register.proofs.Permuted.{unique-permuted, choice-permuted}
 use Rattle.register.proofs.Standing.{Sound, sound-none, sound-after}
 use Rattle.register.proofs.Promised.{choice-promised}
 use Rattle.table.specs.declared.Table.{Table}
-use Rattle.table.specs.declared.Chosen.{Chosen}
-use Rattle.table.specs.Members.{openingOf, membersOf, vacant, emptyTable}
+use Rattle.table.specs.Members.{membersOf, vacant, emptyTable}
 use Rattle.table.specs.Calls.{opened, answered}
-use Rattle.table.specs.Choose.{choiceOf, chosenOf}
-use Rattle.table.specs.History.{answersFrom, tableFrom, Left, Agree, Demand3}
+use Rattle.table.specs.Choose.{choiceOf}
+use Rattle.table.specs.History.{answersFrom, tableFrom, Left, Demand3}
 use Rattle.table.proofs.Seats.{rows-none}
 use Rattle.table.proofs.Agreement.{Holds, number-same, answered-holds}
 use Rattle.table.proofs.Following.{choice-of-members}
