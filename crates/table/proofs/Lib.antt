@@ -1,4 +1,2 @@
 pub mod Seats
-pub mod Agreement
-pub mod Following
 pub mod Demand
