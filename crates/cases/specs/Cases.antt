@@ -4,12 +4,13 @@ use mathlib.Core.Bool.{true, false}
 use mathlib.Core.List.{List, [], _∷_}
 use mathlib.Core.Path.{_≡_}
 use lib.IntN.{pos}
+use Rattle.idms.specs.declared.Report.{Report}
 use Rattle.origin.specs.declared.Origin.{Origin}
 use Rattle.times.specs.Times.{ntpAge, delay, expanded, isFar, isAged, isBadlyPresented}
 use Rattle.register.specs.declared.Record.{Record}
 use Rattle.register.specs.declared.Reading.{Reading}
 use Rattle.register.specs.declared.Choice.{Choice}
-use Rattle.register.specs.Register.{Opening, Call}
+use Rattle.register.specs.Register.{Opening, Call, presents}
 use Rattle.register.specs.Choosing.{latenessOf}
 use Rattle.table.specs.declared.Table.{Table}
 use Rattle.table.specs.Calls.{opened, answered}
@@ -40,9 +41,8 @@ member source received rtp presented =
       source = source;
       origin = port (5000 + source);
       report = record {
-        sender = source;
         «payload_type» = 33;
-        p = true;
+        p = 1;
         group = 42;
         media = 7;
         received = received;
@@ -73,6 +73,20 @@ target source received rtp presented counted =
       presented = presented;
       counted = counted;
     })
+
+-- the report item of a record
+abbrev pub reportOf : Record → Report
+reportOf x =
+    record {
+      sender = x .source;
+      «payload_type» = x .report .«payload_type»;
+      p = presents x;
+      group = x .report .group;
+      media = x .report .media;
+      received = x .report .received;
+      rtp = x .report .rtp;
+      presented = x .report .presented;
+    }
 
 -- the settings packet of a choice, from a sender
 abbrev pub settingsBytes : ℕ → Choice → List ℕ
@@ -124,7 +138,7 @@ P4 =
 -- the report of P2 with payload type 33
 abbrev pub P5 : Type 0
 P5 =
-    bytesOf (reportWords (twenty .report))
+    bytesOf (reportWords (reportOf twenty))
     ≡ 0x80 ∷ 0xCF ∷ 0x00 ∷ 0x09 ∷ 0x00 ∷ 0x00 ∷ 0x00 ∷ 0x14 ∷ 0x0C ∷ 0x11 ∷ 0x00 ∷ 0x07
     ∷ 0x42 ∷ 0x00 ∷ 0x00 ∷ 0x00 ∷ 0x00 ∷ 0x00 ∷ 0x00 ∷ 0x2A ∷ 0x00 ∷ 0x00 ∷ 0x00 ∷ 0x07
     ∷ 0x00 ∷ 0x00 ∷ 0x03 ∷ 0xE6 ∷ 0x00 ∷ 0x00 ∷ 0x00 ∷ 0x00 ∷ 0x00 ∷ 0x86 ∷ 0x95 ∷ 0x20

@@ -2,6 +2,6 @@ pub mod Rows
 pub mod Order
 pub mod Permuted
 pub mod Leading
-pub mod Standing
+pub mod Stands
 pub mod Promised
 pub mod Vectors

@@ -14,8 +14,8 @@ use Rattle.origin.specs.Origins.{sameOrigin}
 use Rattle.register.specs.declared.Record.{Record}
 use Rattle.register.specs.declared.Reading.{Reading}
 use Rattle.register.specs.declared.Choice.{Choice}
-use Rattle.register.specs.Register.{Opening, Rows, Call, keep, some, hasNumber, isHeldElsewhere, hasNoRoom, renewed, reportChecks, farewellChecks, answer, freshAt, accepted, after}
-use Rattle.register.specs.Choosing.{fresh, presents, isArrival, counted, latenessOf, precedes, precedesAll, firstOf, choice}
+use Rattle.register.specs.Register.{presents, Opening, Rows, Call, keep, some, hasNumber, isHeldElsewhere, hasNoRoom, renewed, reportChecks, farewellChecks, answer, freshAt, accepted, after}
+use Rattle.register.specs.Choosing.{fresh, isArrival, counted, latenessOf, precedes, precedesAll, firstOf, choice}
 use Rattle.register.specs.Promise.{Unique}
 use Rattle.register.proofs.Order.{precedes-true}
 use Rattle.register.proofs.Rows.{keep-yes, keep-no, length-permuted, some-permuted, keep-permuted, cond-permuted, short-permuted, some-keep, some-and-none, none-kept, length-keep-cons, length-keep-keep, keep-cong, keep-not-none, keep-all, kept-member}

@@ -14,14 +14,14 @@ use Rattle.times.proofs.Laws.{expanded-by-delay, delay-bound}
 use Rattle.register.specs.declared.Record.{Record}
 use Rattle.register.specs.declared.Reading.{Reading}
 use Rattle.register.specs.declared.Choice.{Choice}
-use Rattle.register.specs.Register.{Opening, Rows, keep, some, freshAt}
-use Rattle.register.specs.Choosing.{fresh, presents, isArrival, counted, delayOf, latenessOf, precedesAll, targetOf, firstOf, choice, delayBetween, targetLateness, moment}
+use Rattle.register.specs.Register.{presents, Opening, Rows, keep, some, freshAt}
+use Rattle.register.specs.Choosing.{fresh, isArrival, counted, delayOf, latenessOf, precedesAll, targetOf, firstOf, choice, delayBetween, targetLateness, moment}
 use Rattle.register.specs.Leader.{leader}
 use Rattle.register.specs.Promise.{Promised}
 use Rattle.register.proofs.Rows.{none-kept, kept-member}
 use Rattle.register.proofs.Order.{≤ℤ-shift}
 use Rattle.register.proofs.Leading.{leader-chosen, leader-member, leader-greatest}
-use Rattle.register.proofs.Standing.{SoundRow, Sound}
+use Rattle.register.proofs.Stands.{SoundRow, Sound}
 
 -- ---- rows counted
 

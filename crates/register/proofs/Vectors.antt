@@ -34,9 +34,8 @@ member source origin received rtp presented =
       source = source;
       origin = origin;
       report = record {
-        sender = source;
         «payload_type» = 33;
-        p = true;
+        p = 1;
         group = 42;
         media = 7;
         received = received;
@@ -75,7 +74,7 @@ target20 = target 20 (seconds 998) 8820000 (seconds 998 + 0xC0000000) 2
 
 -- 20 without a presented time: counted in arrival mode alone
 abbrev silent : Record
-silent = record { source = 20; origin = port 5006; report = record { sender = 20; «payload_type» = 33; p = false; group = 42; media = 7; received = seconds 998; rtp = 8820000; presented = 0 } }
+silent = record { source = 20; origin = port 5006; report = record { «payload_type» = 33; p = 0; group = 42; media = 7; received = seconds 998; rtp = 8820000; presented = 0 } }
 
 -- with presented 03E7C000 instead, as late as twenty
 abbrev tenLater : Record

@@ -11,7 +11,7 @@ use Rattle.register.specs.declared.Record.{Record}
 use Rattle.register.specs.declared.Reading.{Reading}
 use Rattle.register.specs.declared.Target.{Target}
 use Rattle.register.specs.declared.Choice.{Choice}
-use Rattle.register.specs.Register.{Opening, Rows, keep, some, freshAt}
+use Rattle.register.specs.Register.{Opening, Rows, keep, some, presents, freshAt}
 
 -- lateness, in units of 1/(rate × 2^32) s: rate × (delay − NTP age) + RTP age × 2^32, a signed number
 unfoldable pub lateness : ℕ → ℕ → ℕ → ℕ → ℤ
@@ -20,9 +20,6 @@ lateness rate delay ntpAge rtpAge = pos rate *ℤ subℕ delay ntpAge +ℤ pos (
 -- the fresh rows
 abbrev pub fresh : Opening → Reading → Rows → Rows
 fresh o at rows = keep (freshAt o at) rows
-
-abbrev pub presents : Record → Bool
-presents row = row .report .p
 
 -- whether no fresh row has P 1
 abbrev pub isArrival : Opening → Reading → Rows → Bool

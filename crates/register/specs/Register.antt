@@ -42,6 +42,10 @@ unfoldable pub some : {A : Type 0} → (A → Bool) → List A → Bool
 some test [] = false
 some test (x ∷ xs) = test x || some test xs
 
+-- P 1
+abbrev pub presents : Record → Bool
+presents row = not (eqb (row .report .p) 0)
+
 abbrev pub hasNumber : ℕ → Record → Bool
 hasNumber source row = eqb (row .source) source
 
@@ -65,7 +69,7 @@ reportChecks o x at elsewhere noRoom =
     (cond elsewhere 14
     (cond (isFar (at .ntp) (x .report .received)) 15
     (cond (isAged (o .rate) (at .rtp) (x .report .rtp)) 16
-    (cond (x .report .p && isBadlyPresented (x .report .received) (x .report .presented)) 17
+    (cond (presents x && isBadlyPresented (x .report .received) (x .report .presented)) 17
     (cond noRoom 18
     0)))))
 

@@ -1,12 +1,23 @@
 // What a member table and the plain register are told, and what choosing answers.
-use idms::Report;
 use origin::Origin;
+
+// A report as it stands in a row: the fields of a report item but its sender, who is the record's source. P is 1 where
+// `p` is not 0. No field is a bool, so that a host in C can hold any bytes here and still be answered.
+pub struct Standing {
+    pub received: u64,
+    pub group: u32,
+    pub media: u32,
+    pub rtp: u32,
+    pub presented: u32,
+    pub payload_type: u8,
+    pub p: u8,
+}
 
 // A report with its source number and its origin: what the table is told, and what it holds.
 pub struct Record {
     pub source: u32,
     pub origin: Origin,
-    pub report: Report,
+    pub report: Standing,
 }
 
 // A sender's reading of both clocks: NTP time N and RTP time R.

@@ -9,8 +9,8 @@ use Rattle.places.specs.Places.{heldIn}
 use Rattle.register.specs.declared.Record.{Record}
 use Rattle.register.specs.declared.Reading.{Reading}
 use Rattle.register.specs.declared.Choice.{Choice}
-use Rattle.register.specs.Register.{Opening, Rows, freshAt}
-use Rattle.register.specs.Choosing.{presents, latenessOf, targetOf}
+use Rattle.register.specs.Register.{Opening, Rows, presents, freshAt}
+use Rattle.register.specs.Choosing.{latenessOf, targetOf}
 use Rattle.register.specs.Leader.{leader}
 use Rattle.table.specs.declared.Table.{Table}
 use Rattle.table.specs.declared.Chosen.{Chosen}

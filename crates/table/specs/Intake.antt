@@ -3,6 +3,7 @@
 use Rattle.idms.specs.declared.Found.{Found}
 use Rattle.idms.specs.declared.Item.{Item}
 use Rattle.idms.specs.declared.Report.{Report}
+use Rattle.idms.specs.Rows.{bit}
 use Rattle.origin.specs.declared.Origin.{Origin}
 use Rattle.register.specs.declared.Record.{Record}
 use Rattle.register.specs.declared.Reading.{Reading}
@@ -14,7 +15,20 @@ use Rattle.table.specs.Calls.{answered}
 
 -- a report's source number is the XR sender's SSRC
 abbrev pub recordOf : Report → Origin → Record
-recordOf r origin = record { source = r .sender; origin = origin; report = r }
+recordOf r origin =
+    record {
+      source = r .sender;
+      origin = origin;
+      report = record {
+        received = r .received;
+        group = r .group;
+        media = r .media;
+        rtp = r .rtp;
+        presented = r .presented;
+        «payload_type» = r .«payload_type»;
+        p = bit (r .p);
+      };
+    }
 
 abbrev pub called : Table → Call → Taken
 called t call = record { outcome = Outcome.Number (answered t call .number); table = answered t call .table }

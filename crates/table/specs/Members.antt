@@ -21,9 +21,8 @@ zeros address =
       source = 0;
       origin = record { address = address; port = 0 };
       report = record {
-        sender = 0;
         «payload_type» = 0;
-        p = false;
+        p = 0;
         group = 0;
         media = 0;
         received = 0;
@@ -65,8 +64,8 @@ countOf t = heldIn 64 (t .held)
 -- the member at a place, or none
 unfoldable pub seatAt : Table → ℕ → Seat
 seatAt t place =
-    cond (ltb place 64 && isHeld place (t .held)) (record { held = true; member = getD (t .members) place nowhere })
-    (record { held = false; member = vacant })
+    cond (ltb place 64 && isHeld place (t .held)) (record { held = 1; member = getD (t .members) place nowhere })
+    (record { held = 0; member = vacant })
 
 -- ---- places
 

@@ -24,9 +24,9 @@ pub struct Chosen {
     pub table: Table,
 }
 
-// The member at a place. Where none is held there, `held` is false and `member` a record of zeros.
+// The member at a place, where `held` is 1. Where none is held there, it is 0 and `member` a record of zeros.
 pub struct Seat {
-    pub held: bool,
+    pub held: u32,
     pub member: Record,
 }
 

@@ -15,7 +15,7 @@ use Rattle.register.specs.declared.Record.{Record}
 use Rattle.register.specs.Register.{Opening, Rows, Call, keep, some, hasNumber, isHeldElsewhere, hasNoRoom, renewed, farewellChecks, freshAt, answer, accepted, after}
 use Rattle.register.specs.Promise.{Unique}
 use Rattle.register.proofs.Rows.{some-permuted, keep-permuted, length-permuted, some-keep, some-and-none}
-use Rattle.register.proofs.Standing.{accepted-passed}
+use Rattle.register.proofs.Stands.{accepted-passed}
 use Rattle.register.proofs.Permuted.{unique-permuted, unique-after, without-own, elsewhere-own, renewed-form}
 use Rattle.table.specs.declared.Table.{Table}
 use Rattle.table.specs.Members.{openingOf, nowhere, rowsAt, membersOf, placeIn}

@@ -13,8 +13,8 @@ use Rattle.places.specs.Places.{heldIn}
 use Rattle.places.proofs.Laws.{eqb-same}
 use Rattle.register.specs.declared.Record.{Record}
 use Rattle.register.specs.declared.Reading.{Reading}
-use Rattle.register.specs.Register.{Opening, Rows, some, freshAt}
-use Rattle.register.specs.Choosing.{presents, isArrival, counted, latenessOf, choice}
+use Rattle.register.specs.Register.{Opening, Rows, some, presents, freshAt}
+use Rattle.register.specs.Choosing.{isArrival, counted, latenessOf, choice}
 use Rattle.register.proofs.Rows.{keep-both, some-both}
 use Rattle.register.proofs.Promised.{choice-none, choice-leading}
 use Rattle.table.specs.declared.Table.{Table}

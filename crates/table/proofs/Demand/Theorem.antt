@@ -12,7 +12,7 @@ use Rattle.register.specs.Register.{Opening, Rows, Call, isRefusedOpening, keep
 use Rattle.register.specs.Choosing.{choice}
 use Rattle.register.specs.Promise.{AllInRange}
 use Rattle.register.proofs.Permuted.{unique-permuted, choice-permuted}
-use Rattle.register.proofs.Standing.{Sound, sound-none, sound-after}
+use Rattle.register.proofs.Stands.{Sound, sound-none, sound-after}
 use Rattle.register.proofs.Promised.{choice-promised}
 use Rattle.table.specs.declared.Table.{Table}
 use Rattle.table.specs.Members.{membersOf, vacant, emptyTable}

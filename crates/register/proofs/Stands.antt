@@ -9,7 +9,7 @@ use borrow.Author.Tests.{eqb-true}
 use Rattle.times.specs.Times.{isFar, isAged, isBadlyPresented}
 use Rattle.register.specs.declared.Record.{Record}
 use Rattle.register.specs.declared.Reading.{Reading}
-use Rattle.register.specs.Register.{Opening, Rows, Call, hasNumber, isHeldElsewhere, renewed, reportChecks, hasNoRoom, answer, freshAt, accepted, after}
+use Rattle.register.specs.Register.{Opening, Rows, Call, presents, hasNumber, isHeldElsewhere, renewed, reportChecks, hasNoRoom, answer, freshAt, accepted, after}
 use Rattle.register.specs.Promise.{InRange}
 use Rattle.register.proofs.Rows.{clash, kept-member}
 
@@ -30,7 +30,7 @@ pub record Passed (o : Opening) (x : Record) (at : Reading) (elsewhere noRoom : 
   pub here : elsewhere ≡ false
   pub near : isFar (at .ntp) (x .report .received) ≡ false
   pub young : isAged (o .rate) (at .rtp) (x .report .rtp) ≡ false
-  pub presented : (x .report .p && isBadlyPresented (x .report .received) (x .report .presented)) ≡ false
+  pub presented : (presents x && isBadlyPresented (x .report .received) (x .report .presented)) ≡ false
   pub room : noRoom ≡ false
 
 pub accepted-passed :
@@ -45,7 +45,7 @@ accepted-passed o x at elsewhere noRoom e =
     let past15 : _ = first-check (isFar (at .ntp) (x .report .received)) 14 _ (past14 .1) in
     let past16 : _ = first-check (isAged (o .rate) (at .rtp) (x .report .rtp)) 15 _ (past15 .1) in
     let past17 : _ =
-    first-check (x .report .p && isBadlyPresented (x .report .received) (x .report .presented)) 16 _ (past16 .1) in
+    first-check (presents x && isBadlyPresented (x .report .received) (x .report .presented)) 16 _ (past16 .1) in
     let past18 : _ = first-check noRoom 17 _ (past17 .1) in
     let own : _ = both-true group media (past13 .0) in
     record {
@@ -66,7 +66,7 @@ pub record SoundRow (o : Opening) (row : Record) : Type 0 where
   pub group : row .report .group ≡ o .group
   pub media : row .report .media ≡ o .media
   pub range : row .report .received < 2 ^ 64
-  pub presented : (row .report .p && isBadlyPresented (row .report .received) (row .report .presented)) ≡ false
+  pub presented : (presents row && isBadlyPresented (row .report .received) (row .report .presented)) ≡ false
 
 abbrev pub Sound : Opening → Rows → Type 0
 Sound o rows = (row : Record) → List·Memᴰ row rows → SoundRow o row
