@@ -1,4 +1,5 @@
--- Choosing on a table: one pass marks the counted members, another finds the one that leads.
+-- Choosing on a table: one pass marks the counted members, another finds the one that leads. Of a table, choosing looks at
+-- the rate, the word and the members.
 use Prim.Native.Nat.{ℕ}
 use mathlib.Core.Bool.{Bool, cond, _&&_}
 use mathlib.Core.List.{List, [], _∷_}
@@ -13,32 +14,44 @@ use Rattle.register.specs.Choosing.{presents, latenessOf, targetOf}
 use Rattle.register.specs.Leader.{leader}
 use Rattle.table.specs.declared.Table.{Table}
 use Rattle.table.specs.declared.Chosen.{Chosen}
-use Rattle.table.specs.Members.{openingOf, rowsAt, keepWord}
+use Rattle.table.specs.Members.{rowsAt, keepWord}
+
+-- an opening at a rate: freshness and lateness look at no more of one
+abbrev pub atRate : ℕ → Opening
+atRate rate = record { group = 0; media = 0; rate = rate }
 
 -- the places whose member is fresh
-abbrev pub freshWord : Table → Reading → ℕ
-freshWord t at = keepWord (freshAt (openingOf t) at) (t .held) (t .members)
+abbrev pub freshWord : ℕ → Reading → ℕ → Rows → ℕ
+freshWord rate at held members = keepWord (freshAt (atRate rate) at) held members
 
 -- the places whose member is fresh and reports presentation
-abbrev pub presentingWord : Table → Reading → ℕ
-presentingWord t at = keepWord (λ m. freshAt (openingOf t) at m && presents m) (t .held) (t .members)
+abbrev pub presentingWord : ℕ → Reading → ℕ → Rows → ℕ
+presentingWord rate at held members = keepWord (λ m. freshAt (atRate rate) at m && presents m) held members
 
 -- arrival mode: no fresh member reports presentation
-abbrev pub arrives : Table → Reading → Bool
-arrives t at = eqb (presentingWord t at) 0
+abbrev pub arrives : ℕ → Reading → ℕ → Rows → Bool
+arrives rate at held members = eqb (presentingWord rate at held members) 0
 
-abbrev pub countedWord : Table → Reading → ℕ
-countedWord t at = cond (arrives t at) (freshWord t at) (presentingWord t at)
+abbrev pub countedWord : ℕ → Reading → ℕ → Rows → ℕ
+countedWord rate at held members =
+    cond (arrives rate at held members) (freshWord rate at held members) (presentingWord rate at held members)
 
 -- the row that leads, or 20 without rows
 unfoldable pub led : (Record → ℤ) → Bool → ℕ → Rows → Choice
 led late arrival count [] = Choice.Refused 20
 led late arrival count (row ∷ rows) = targetOf arrival (leader late row rows) count
 
+-- the one that leads among the members that a word marks, all of them counted
+abbrev pub choiceIn : ℕ → Reading → Bool → ℕ → Rows → Choice
+choiceIn rate at arrival word members =
+    led (latenessOf (atRate rate) at arrival) arrival (heldIn 64 word) (rowsAt word members)
+
+unfoldable pub choiceAmong : ℕ → Reading → ℕ → Rows → Choice
+choiceAmong rate at held members =
+    choiceIn rate at (arrives rate at held members) (countedWord rate at held members) members
+
 unfoldable pub choiceOf : Table → Reading → Choice
-choiceOf t at =
-    led (latenessOf (openingOf t) at (arrives t at)) (arrives t at) (heldIn 64 (countedWord t at))
-    (rowsAt (countedWord t at) (t .members))
+choiceOf t at = choiceAmong (t .rate) at (t .held) (t .members)
 
 -- choosing leaves the table as it was
 abbrev pub chosenOf : Table → Reading → Chosen
