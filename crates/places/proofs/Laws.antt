@@ -7,7 +7,7 @@ use lib.Count.{ones, onesIn, ones-step, trailingZeros}
 use lib.Dec.{eqb, ltb}
 use native.Mathlib.Nat.{pow-zero, pow-suc}
 use native.Mathlib.Omega.{arith}
-use borrow.Author.Tests.{eqb-true, eqb-false, ltb-true, ltb-false}
+use borrow.Author.Tests.{eqb-true, eqb-false, eq-eqb, ne-eqb, ltb-true, ltb-false}
 use Rattle.places.specs.Places.{isHeld, heldIn, lowestFree}
 
 -- ---- what the word's operations count
@@ -110,3 +110,44 @@ all-held k word held = go (ltb (lowestFree k word) k) refl
         let z : _≡_ {A = ℕ} 0 1 = cc in
         absurd (omega arith)
     go false q = omega (arith, ltb-false (lowestFree k word) k q, lowest-free-within k word)
+
+-- ---- a full word
+
+-- two tests of numbers agree where each makes the other true
+pub eqb-same : (a b c d : ℕ) → (a ≡ b → c ≡ d) → (c ≡ d → a ≡ b) → eqb a b ≡ eqb c d
+eqb-same a b c d there back = go (eqb c d) refl
+  where
+    go : (t : Bool) → eqb c d ≡ t → eqb a b ≡ eqb c d
+    go true e = eq-eqb a b (back (eqb-true c d e)) ∙ sym e
+    go false e = ne-eqb a b (λ same. eqb-false c d e (there same)) ∙ sym e
+
+pub held-within : (k word : ℕ) → heldIn k word ≤ k
+unfolding heldIn
+held-within zero word = omega arith
+held-within (suc k) word = omega (arith, held-within k (word / 2))
+
+full-step :
+    (k word held : ℕ) → (t : Bool) → eqb (word % 2) 0 ≡ t → held ≤ k → eqb (lowestFree k (word / 2)) k ≡ eqb held k →
+    eqb (lowestFree (suc k) word) (suc k) ≡ eqb (word % 2 + held) (suc k)
+full-step k word held true e within rest =
+    let even : word % 2 ≡ 0 = eqb-true (word % 2) 0 e in
+    eqb-same (lowestFree (suc k) word) (suc k) (word % 2 + held) (suc k) (λ z. absurd (omega (arith, z, free-here k word e)))
+    (λ z. absurd (omega (arith, z, even)))
+full-step k word held false e within rest =
+    let odd : word % 2 ≡ 0 → ⊥ = eqb-false (word % 2) 0 e in
+    eqb-same (lowestFree (suc k) word) (suc k) (word % 2 + held) (suc k)
+    (λ z.
+    let same : lowestFree k (word / 2) ≡ k = omega (arith, z, free-above k word e) in
+    let all : held ≡ k = eqb-true held k (sym rest ∙ eq-eqb (lowestFree k (word / 2)) k same) in
+    omega (arith, odd, all))
+    (λ z.
+    let all : held ≡ k = omega (arith, z, odd) in
+    let same : lowestFree k (word / 2) ≡ k = eqb-true (lowestFree k (word / 2)) k (rest ∙ eq-eqb held k all) in
+    omega (arith, free-above k word e, same))
+
+-- no place is free exactly where as many are held as there are places
+pub full-held : (k word : ℕ) → eqb (lowestFree k word) k ≡ eqb (heldIn k word) k
+unfolding lowestFree heldIn
+full-held zero word = refl
+full-held (suc k) word =
+    full-step k word (heldIn k (word / 2)) (eqb (word % 2) 0) refl (held-within k (word / 2)) (full-held k (word / 2))

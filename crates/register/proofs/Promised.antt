@@ -21,15 +21,7 @@ use Rattle.register.specs.Leader.{leader}
 use Rattle.register.specs.Promise.{InRange, Promised}
 use Rattle.register.proofs.Order.{≤ℤ-shift}
 use Rattle.register.proofs.Leading.{leader-chosen, leader-member, leader-greatest}
-
--- a received time of 64 bits, and a report that check 17 lets pass
-abbrev pub SoundRow : Record → Type 0
-SoundRow row =
-    (row .report .received < 2 ^ 64)
-    × ((row .report .p && isBadlyPresented (row .report .received) (row .report .presented)) ≡ false)
-
-abbrev pub Sound : Rows → Type 0
-Sound rows = (row : Record) → List·Memᴰ row rows → SoundRow row
+use Rattle.register.proofs.Standing.{SoundRow, Sound}
 
 -- ---- rows kept
 
@@ -126,17 +118,17 @@ delay-again received presented small =
 
 -- in arrival mode presented is 0; otherwise check 17 let no expanded presentation of 0 pass
 delay-answered :
-    (arrival : Bool) (row : Record) → SoundRow row → (arrival ≡ false → presents row ≡ true) →
+    (o : Opening) (arrival : Bool) (row : Record) → SoundRow o row → (arrival ≡ false → presents row ≡ true) →
     delayBetween (row .report .received) (cond arrival 0 (expanded (row .report .received) (row .report .presented)))
     ≡ delayOf arrival row
-delay-answered true row sound presented = refl
-delay-answered false row sound presented =
+delay-answered o true row sound presented = refl
+delay-answered o false row sound presented =
     let passed : isBadlyPresented (row .report .received) (row .report .presented) ≡ false =
-    rw (presented refl) at (sound .1) in
+    rw (presented refl) at (sound .presented) in
     let present : eqb (expanded (row .report .received) (row .report .presented)) 0 ≡ false =
     or-false (ltb (30 * 2 ^ 32) (delay (row .report .received) (row .report .presented)))
     (eqb (expanded (row .report .received) (row .report .presented)) 0) passed in
-    rw present (delay-again (row .report .received) (row .report .presented) (sound .0))
+    rw present (delay-again (row .report .received) (row .report .presented) (sound .range))
 
 -- ---- the choice
 
@@ -168,7 +160,7 @@ choice-leading o at rows a rest e =
 
 -- a counted row than which none is later, as a target
 promised-greatest :
-    (o : Opening) (at : Reading) (rows : Rows) → Sound rows → (row : Record) (n : ℕ) →
+    (o : Opening) (at : Reading) (rows : Rows) → Sound o rows → (row : Record) (n : ℕ) →
     List·Memᴰ row (counted o at rows) →
     ((other : Record) → List·Memᴰ other (counted o at rows) →
     latenessOf o at (isArrival o at rows) other ≤ℤ latenessOf o at (isArrival o at rows) row) →
@@ -176,7 +168,7 @@ promised-greatest :
 unfolding Promised targetLateness
 promised-greatest o at rows sound row n member greatest =
     let belongs : _ = counted-member o at rows row member in
-    rw (delay-answered (isArrival o at rows) row (sound row (belongs .0)) (belongs .1)) (
+    rw (delay-answered o (isArrival o at rows) row (sound row (belongs .0)) (belongs .1)) (
       λ other m k. ≤ℤ-shift (k *ℤ pos (2 ^ 32)) (greatest other m),
       λ late asks. least late (asks row member (pos 0)),
       (row, member, refl),
@@ -190,7 +182,7 @@ promised-greatest o at rows sound row n member greatest =
     least late h = rw (+ℤ-idr (latenessOf o at (isArrival o at rows) row), +ℤ-idr late) at h
 
 pub choice-promised :
-    (o : Opening) (at : Reading) (rows : Rows) → Sound rows → Promised o at rows (choice o at rows)
+    (o : Opening) (at : Reading) (rows : Rows) → Sound o rows → Promised o at rows (choice o at rows)
 unfolding Promised
 choice-promised o at rows sound = go (counted o at rows) refl
   where
@@ -202,76 +194,3 @@ choice-promised o at rows sound = go (counted o at rows) refl
         (promised-greatest o at rows sound (leader late a rest) (length (a ∷ rest))
         (subst (List·Memᴰ (leader late a rest)) (sym e) (leader-member late a rest))
         (λ other m. leader-greatest late a rest other (subst (List·Memᴰ other) e m)))
-
--- ---- the rows stay sound
-
-pub sound-none : Sound []
-sound-none row member = absurd (List·Memᴰ·not-nil member)
-
-first-check : (t : Bool) (n m : ℕ) → cond t (suc n) m ≡ 0 → (t ≡ false) × (m ≡ 0)
-first-check true n m e = absurd (omega arith)
-first-check false n m e = (refl, e)
-
--- answered 0, a report passed check 17
-accepted-presented :
-    (o : Opening) (x : Record) (at : Reading) (elsewhere noRoom : Bool) → reportChecks o x at elsewhere noRoom ≡ 0 →
-    (x .report .p && isBadlyPresented (x .report .received) (x .report .presented)) ≡ false
-unfolding reportChecks
-accepted-presented o x at elsewhere noRoom e =
-    let ours : Bool = eqb (x .report .group) (o .group) && eqb (x .report .media) (o .media) in
-    let past13 : _ = first-check (not ours) 12 _ e in
-    let past14 : _ = first-check elsewhere 13 _ (past13 .1) in
-    let past15 : _ = first-check (isFar (at .ntp) (x .report .received)) 14 _ (past14 .1) in
-    let past16 : _ = first-check (isAged (o .rate) (at .rtp) (x .report .rtp)) 15 _ (past15 .1) in
-    first-check (x .report .p && isBadlyPresented (x .report .received) (x .report .presented)) 16 _ (past16 .1) .0
-
-renewed-step :
-    (row r x : Record) (rows : Rows) →
-    (List·Memᴰ row (renewed rows x) → List·Memᴰ row (x ∷ rows)) →
-    List·Memᴰ row (renewed (r ∷ rows) x) →
-    List·Memᴰ row (x ∷ r ∷ rows)
-unfolding renewed
-renewed-step row r x rows rest member = go (hasNumber (x .source) r) refl
-  where
-    under : List·Memᴰ row (x ∷ rows) → List·Memᴰ row (x ∷ r ∷ rows)
-    under (List·Memᴰ·head e) = List·Memᴰ·head e
-    under (List·Memᴰ·tail m) = List·Memᴰ·tail (List·Memᴰ·tail m)
-
-    behind : List·Memᴰ row (r ∷ renewed rows x) → List·Memᴰ row (x ∷ r ∷ rows)
-    behind (List·Memᴰ·head e) = List·Memᴰ·tail (List·Memᴰ·head e)
-    behind (List·Memᴰ·tail m) = under (rest m)
-
-    go : (t : Bool) → hasNumber (x .source) r ≡ t → List·Memᴰ row (x ∷ r ∷ rows)
-    go true e = under (rw e at member)
-    go false e = behind (rw e at member)
-
--- a row of the rows renewed is the report's, or was there
-member-renewed : (row : Record) (rows : Rows) (x : Record) → List·Memᴰ row (renewed rows x) → List·Memᴰ row (x ∷ rows)
-unfolding renewed
-member-renewed row [] x member = member
-member-renewed row (r ∷ rows) x member = renewed-step row r x rows (member-renewed row rows x) member
-
-sound-cons : (x : Record) (rows : Rows) → SoundRow x → Sound rows → Sound (x ∷ rows)
-sound-cons x rows first sound row (List·Memᴰ·head e) = subst SoundRow (sym e) first
-sound-cons x rows first sound row (List·Memᴰ·tail m) = sound row m
-
-sound-accepted :
-    (o : Opening) (rows : Rows) (call : Call) → InRange call → Sound rows → answer o rows call ≡ 0 →
-    Sound (accepted o rows call)
-unfolding answer
-sound-accepted o rows (Call.report x at) range sound e =
-    let passed : _ =
-    accepted-presented o x at (isHeldElsewhere rows (x .source) (x .origin)) (hasNoRoom rows (x .source)) e in
-    λ row member. sound-cons x rows (range, passed) sound row (member-renewed row rows x member)
-sound-accepted o rows (Call.farewell source origin) range sound e =
-    λ row member. sound row (member-kept (λ r. not (hasNumber source r)) row rows member .0)
-sound-accepted o rows (Call.sweep at) range sound e =
-    λ row member. sound row (member-kept (freshAt o at) row rows member .0)
-
-pub sound-after : (o : Opening) (rows : Rows) (call : Call) → InRange call → Sound rows → Sound (after o rows call)
-unfolding after
-sound-after o rows call range sound = go (eqb (answer o rows call) 0) refl
-  where
-    go : (t : Bool) → eqb (answer o rows call) 0 ≡ t → Sound (after o rows call)
-    go true e = rw e (sound-accepted o rows call range sound (eqb-true (answer o rows call) 0 e))
-    go false e = rw e sound

@@ -22,7 +22,7 @@ use Rattle.table.specs.declared.choose.Lead.{Lead}
 use Rattle.table.specs.Members.{isFree, rowsAt, nowhere}
 use Rattle.table.specs.Choose.{led}
 use Rattle.table.specs.Lateness.{biased, biasedOf, biasedLate, inTwo, joined, leadOf, keepsLead, leadNext, ledFrom}
-use Rattle.table.proofs.Words.{rowsAt-free, rowsAt-held}
+use Rattle.table.proofs.Words.{rows-free-at, rows-held-at}
 
 -- ---- two words
 
@@ -196,7 +196,7 @@ led-step {rate} {at} {arrival} {word} {ms} {a} {rest} {i} {next} below within so
           stands = so .stands;
           whole =
               λ n.
-              sym (ap (ledFrom (biasedLate rate at arrival) arrival n ms (a .place)) (rowsAt-free rest ms i within p))
+              sym (ap (ledFrom (biasedLate rate at arrival) arrival n ms (a .place)) (rows-free-at rest ms i within p))
               ∙ so .whole n;
         })
     go false p true q =
@@ -208,7 +208,7 @@ led-step {rate} {at} {arrival} {word} {ms} {a} {rest} {i} {next} below within so
           whole =
               λ n.
               sym
-              (ap (ledFrom (biasedLate rate at arrival) arrival n ms (a .place)) (rowsAt-held rest ms i within p)
+              (ap (ledFrom (biasedLate rate at arrival) arrival n ms (a .place)) (rows-held-at rest ms i within p)
               ∙ ledFrom-keeps (biasedLate rate at arrival) arrival n ms (a .place) _ _ kept)
               ∙ so .whole n;
         })
@@ -221,7 +221,7 @@ led-step {rate} {at} {arrival} {word} {ms} {a} {rest} {i} {next} below within so
           whole =
               λ n.
               sym
-              (ap (ledFrom (biasedLate rate at arrival) arrival n ms (a .place)) (rowsAt-held rest ms i within p)
+              (ap (ledFrom (biasedLate rate at arrival) arrival n ms (a .place)) (rows-held-at rest ms i within p)
               ∙ ledFrom-takes (biasedLate rate at arrival) arrival n ms (a .place) i _ below lost)
               ∙ so .whole n;
         })

@@ -1,2 +1,6 @@
+pub mod Seats
 pub mod Words
 pub mod Leading
+pub mod Agreement
+pub mod Following
+pub mod Demand

@@ -1,19 +1,18 @@
--- Laws of words that mark places: one digit more, one place more of `keepWord`, and the members that a kept word marks.
-use Prim.Native.Nat.{ℕ, zero, suc, _+_, _*_, _/_, _%_, _^_, _≤_, _<_}
-use mathlib.Core.Bool.{Bool, true, false, not, cond, _&&_}
-use mathlib.Core.List.{List, [], _∷_}
+-- Laws of one place more, for a pass over the places: of the word that marks those that pass a test, which grows a digit
+-- at a time, and of the members that a word marks.
+use Prim.Native.Nat.{ℕ, suc, _+_, _*_, _/_, _^_, _≤_, _<_}
+use mathlib.Core.Bool.{Bool, true, false, not, _&&_}
+use mathlib.Core.List.{_∷_}
 use mathlib.Core.Path.{_≡_, refl, sym, ap, _∙_}
-use lib.Dec.{eqb}
 use lib.ListN.{length, getD, drop, drop-of-length-le}
 use lib.Seq.{drop-cons}
 use native.Mathlib.Nat.{pow-suc, pow-le-pow-right}
 use native.Mathlib.Numerals.{add-one}
 use native.Mathlib.Omega.{arith}
-use borrow.Author.Tests.{eqb-true, eqb-false, eq-eqb, ne-eqb}
-use Rattle.places.specs.Places.{heldIn}
 use Rattle.register.specs.declared.Record.{Record}
-use Rattle.register.specs.Register.{Rows, keep}
+use Rattle.register.specs.Register.{Rows}
 use Rattle.table.specs.Members.{isFree, rowsAt, digit, keepWord, nowhere}
+use Rattle.table.proofs.Seats.{rows-free, rows-held}
 
 -- ---- one digit more
 
@@ -35,17 +34,17 @@ pub keepWord-step :
 unfolding keepWord
 keepWord-step test word ms i h = rw (add-one i, drop-cons ms i nowhere h) refl
 
-pub rowsAt-free :
+pub rows-free-at :
     (word : ℕ) (ms : Rows) (i : ℕ) → i < length ms → isFree word ≡ true →
     rowsAt word (drop i ms) ≡ rowsAt (word / 2) (drop (i + 1) ms)
-unfolding rowsAt
-rowsAt-free word ms i h e = rw (add-one i, drop-cons ms i nowhere h, e) refl
+rows-free-at word ms i h e =
+    rw (add-one i, drop-cons ms i nowhere h) (rows-free word (getD ms i nowhere) (drop (suc i) ms) e)
 
-pub rowsAt-held :
+pub rows-held-at :
     (word : ℕ) (ms : Rows) (i : ℕ) → i < length ms → isFree word ≡ false →
     rowsAt word (drop i ms) ≡ getD ms i nowhere ∷ rowsAt (word / 2) (drop (i + 1) ms)
-unfolding rowsAt
-rowsAt-held word ms i h e = rw (add-one i, drop-cons ms i nowhere h, e) refl
+rows-held-at word ms i h e =
+    rw (add-one i, drop-cons ms i nowhere h) (rows-held word (getD ms i nowhere) (drop (suc i) ms) e)
 
 -- a power over a digit and what stands above it
 regrouped : (kept p d k : ℕ) → kept + p * (d + 2 * k) ≡ kept + d * p + p * 2 * k

@@ -2,12 +2,12 @@
 -- before handed back.
 use Prim.Native.Nat.{ℕ}
 use mathlib.Core.Path.{_≡_}
-use mathlib.Core.List.{List, [], _∷_, List·Permᴰ}
+use mathlib.Core.List.{List, [], _∷_, List·Memᴰ, List·Permᴰ}
 use Rattle.register.specs.declared.Record.{Record}
 use Rattle.register.specs.declared.Reading.{Reading}
 use Rattle.register.specs.Register.{Opening, Rows, Call, answers, afterAll}
 use Rattle.register.specs.Choosing.{choice}
-use Rattle.register.specs.Promise.{AllInRange, Promised}
+use Rattle.register.specs.Promise.{Unique, AllInRange, Promised}
 use Rattle.table.specs.declared.Table.{Table}
 use Rattle.table.specs.Members.{openingOf, membersOf}
 use Rattle.table.specs.Calls.{opened, answered}
@@ -30,10 +30,13 @@ pub record Left (o : Opening) (calls : List Call) (t : Table) (rows : Rows) : Ty
   pub leaves : t ≡ tableFrom (opened o .table) calls
   pub records : rows ≡ afterAll o [] calls
 
--- members and rows agree one to one, in number, origin and report; group, media source and rate are the opening's
+-- members and rows agree one to one, in number, origin and every field of the report, each number once; group, media
+-- source and rate are the opening's
 pub record Agree (o : Opening) (t : Table) (rows : Rows) : Type 0 where
   pub opening : openingOf t ≡ o
   pub members : List·Permᴰ (membersOf t) rows
+  pub unique : Unique rows
+  pub own : (row : Record) → List·Memᴰ row rows → (row .report .group ≡ o .group) × (row .report .media ≡ o .media)
 
 -- what demand 3 says of a table, the rows and the calls that left them
 pub record Demand3 (o : Opening) (calls : List Call) (t : Table) (rows : Rows) : Type 0 where

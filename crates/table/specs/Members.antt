@@ -54,7 +54,7 @@ isFree word = eqb (word % 2) 0
 -- the members at the places held, in the order of places
 unfoldable pub rowsAt : ℕ → Rows → Rows
 rowsAt word [] = []
-rowsAt word (m ∷ ms) = cond (isFree word) (rowsAt (word / 2) ms) (m ∷ rowsAt (word / 2) ms)
+rowsAt word (m ∷ ms) = let rest = rowsAt (word / 2) ms in cond (isFree word) rest (m ∷ rest)
 
 abbrev pub membersOf : Table → Rows
 membersOf t = rowsAt (t .held) (t .members)
