@@ -1,36 +1,42 @@
 -- The walk of the code for the member that leads: a lateness in two words is the biased number, and a step over a place
 -- is `leader`'s step over its row.
 use Prim.Native.Nat.{ℕ, _+_, _-_, _*_, _/_, _%_, _^_, _≤_, _<_}
-use mathlib.Core.Bool.{Bool, true, false, not, cond, _&&_, _||_, and-eq-true-iff}
-use mathlib.Core.List.{List, [], _∷_}
+use mathlib.Core.Bool.{Bool, true, false, cond, _&&_, and-eq-true-iff}
+use mathlib.Core.List.{[], _∷_}
 use mathlib.Core.Path.{_≡_, refl, sym, ap, _∙_}
-use lib.Dec.{ltb, leb, eqb}
-use lib.IntN.{ℤ, pos}
+use lib.Dec.{ltb, leb}
+use lib.IntN.{ℤ}
 use lib.ListN.{length, getD, drop, drop-of-length-le}
-use lib.Seq.{drop-cons}
 use native.Mathlib.Nat.{mul-le-mul}
-use native.Mathlib.Numerals.{add-one}
 use native.Mathlib.Omega.{arith}
 use borrow.Author.Tests.{ne-eqb, ltb-true, lt-ltb, le-ltb, le-leb, lt-leb}
 use Rattle.register.specs.declared.Record.{Record}
 use Rattle.register.specs.declared.Reading.{Reading}
+use Rattle.register.specs.declared.Choice.{Choice}
 use Rattle.register.specs.Register.{Rows}
-use Rattle.register.specs.Choosing.{precedes}
+use Rattle.register.specs.Choosing.{precedes, targetOf}
 use Rattle.register.specs.Leader.{leader}
 use Rattle.table.specs.declared.choose.Late.{Late}
 use Rattle.table.specs.declared.choose.Lead.{Lead}
 use Rattle.table.specs.Members.{isFree, rowsAt, nowhere}
 use Rattle.table.specs.Choose.{led}
-use Rattle.table.specs.Lateness.{biased, biasedOf, biasedLate, inTwo, joined, leadOf, keepsLead, leadNext, ledFrom}
+use Rattle.table.specs.Lateness.{biased, biasedOf, biasedLate, inTwo, joined}
+use Rattle.table.specs.Lateness.{leadOf, keepsLead, leadNext, ledFrom, IsLeading}
 use Rattle.table.proofs.Words.{rows-free-at, rows-held-at}
 
 -- ---- two words
 
-pub product-bound : (a b m n : ℕ) → a ≤ m → b ≤ n → a * b ≤ m * n
-product-bound a b m n h k = mul-le-mul h k
-
 -- the two halves of a time, each times the rate
-pub halves-product : (rate time : ℕ) → rate * time ≡ rate * (time / 2 ^ 32) * 2 ^ 32 + rate * (time % 2 ^ 32)
+pub halves-bound :
+    (rate time : ℕ) → rate < 2 ^ 32 → time < 2 ^ 49 →
+    (rate * (time / 2 ^ 32) ≤ (2 ^ 32 - 1) * (2 ^ 17 - 1)) × (rate * (time % 2 ^ 32) ≤ (2 ^ 32 - 1) * (2 ^ 32 - 1))
+halves-bound rate time h k =
+    let most : rate ≤ 2 ^ 32 - 1 = omega arith in
+    let high : time / 2 ^ 32 ≤ 2 ^ 17 - 1 = omega arith in
+    let low : time % 2 ^ 32 ≤ 2 ^ 32 - 1 = omega arith in
+    (mul-le-mul most high, mul-le-mul most low)
+
+halves-product : (rate time : ℕ) → rate * time ≡ rate * (time / 2 ^ 32) * 2 ^ 32 + rate * (time % 2 ^ 32)
 halves-product rate time =
     let split : time ≡ time / 2 ^ 32 * 2 ^ 32 + time % 2 ^ 32 = omega arith in
     ap (λ (n : ℕ). rate * n) split ∙ omega arith
@@ -126,13 +132,14 @@ keeps-precedes rate at arrival ms a i row stands = go (ltb (a .place) 64) refl
     go true e =
         let here : _ = stands (ltb-true (a .place) 64 e) in
         let late : joined (a .late) ≡ biasedOf rate at arrival (getD ms (a .place) nowhere) =
-        ap (λ (x : Lead). joined (x .late)) here ∙ joined-in-two (biasedOf rate at arrival (getD ms (a .place) nowhere)) in
+        ap (λ (x : Lead). joined (x .late)) here
+        ∙ joined-in-two (biasedOf rate at arrival (getD ms (a .place) nowhere)) in
         let source : a .source ≡ getD ms (a .place) nowhere .source = ap (λ (x : Lead). x .source) here in
         rw (e, late, joined-in-two (biasedOf rate at arrival row), source) refl
     go false e = rw e refl
 
 -- one row more
-leader-next :
+pub leader-next :
     (late : Record → ℤ) (a b : Record) (rows : Rows) (t : Bool) → precedes late a b ≡ t →
     leader late a (b ∷ rows) ≡ leader late (cond t a b) rows
 unfolding leader
@@ -188,7 +195,8 @@ led-step {rate} {at} {arrival} {word} {ms} {a} {rest} {i} {next} below within so
   where
     go :
         (s : Bool) → isFree rest ≡ s → (t : Bool) → keepsLead a (leadOf rate at arrival i (getD ms i nowhere)) ≡ t →
-        LedSoFar rate at arrival word ms (leadNext rest a (leadOf rate at arrival i (getD ms i nowhere))) (rest / 2) (i + 1)
+        LedSoFar rate at arrival word ms (leadNext rest a (leadOf rate at arrival i (getD ms i nowhere))) (rest / 2)
+        (i + 1)
     go true p t q =
         rw p
         (record {
@@ -228,11 +236,35 @@ led-step {rate} {at} {arrival} {word} {ms} {a} {rest} {i} {next} below within so
 
 pub led-end :
     {rate : ℕ} {at : Reading} {arrival : Bool} {word : ℕ} {ms : Rows} {a : Lead} {rest i : ℕ} → length ms ≤ i →
-    LedSoFar rate at arrival word ms a rest i →
-    (n : ℕ) →
-    ledFrom (biasedLate rate at arrival) arrival n ms (a .place) []
-    ≡ led (biasedLate rate at arrival) arrival n (rowsAt word ms)
+    LedSoFar rate at arrival word ms a rest i → IsLeading rate at arrival word ms (a .place)
 unfolding rowsAt
 led-end {rate} {at} {arrival} {word} {ms} {a} {rest} {i} h so n =
-    sym (ap (λ (l : Rows). ledFrom (biasedLate rate at arrival) arrival n ms (a .place) (rowsAt rest l)) (drop-of-length-le ms h))
+    sym
+    (ap (λ (l : Rows). ledFrom (biasedLate rate at arrival) arrival n ms (a .place) (rowsAt rest l))
+    (drop-of-length-le ms h))
     ∙ so .whole n
+
+-- ---- the choice where a place leads and no rows are to come
+
+pub led-none :
+    (late : Record → ℤ) (arrival : Bool) (n : ℕ) (ms rows : Rows) (place : ℕ) →
+    ledFrom late arrival n ms place [] ≡ led late arrival n rows → 64 ≤ place →
+    Choice.Refused 20 ≡ led late arrival n rows
+unfolding led
+led-none late arrival n ms rows place whole none =
+    ap (λ (t : Bool). cond t (targetOf arrival (leader late (getD ms place nowhere) []) n) (Choice.Refused 20))
+    (sym (le-ltb place 64 none))
+    ∙ whole
+
+pub led-one :
+    (late : Record → ℤ) (arrival : Bool) (n : ℕ) (ms rows : Rows) (place : ℕ) →
+    ledFrom late arrival n ms place [] ≡ led late arrival n rows → place < 64 →
+    (x : Choice) (count : ℕ) → x ≡ targetOf arrival (getD ms place nowhere) count → count ≡ n →
+    x ≡ led late arrival n rows
+unfolding leader
+led-one late arrival n ms rows place whole one x count e same =
+    e
+    ∙ ap (targetOf arrival (getD ms place nowhere)) same
+    ∙ ap (λ (t : Bool). cond t (targetOf arrival (getD ms place nowhere) n) (led late arrival n []))
+    (sym (lt-ltb place 64 one))
+    ∙ whole

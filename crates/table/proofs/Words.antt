@@ -1,5 +1,5 @@
--- Laws of one place more, for a pass over the places: of the word that marks those that pass a test, which grows a digit
--- at a time, and of the members that a word marks.
+-- Laws of one place more, for a pass over the places: of the word that marks those that pass a test, which grows a
+-- digit at a time, and of the members that a word marks.
 use Prim.Native.Nat.{ℕ, suc, _+_, _*_, _/_, _^_, _≤_, _<_}
 use mathlib.Core.Bool.{Bool, true, false, not, _&&_}
 use mathlib.Core.List.{_∷_}
@@ -27,7 +27,7 @@ power-below i h =
 
 -- ---- one place more
 
-pub keepWord-step :
+keepWord-step :
     (test : Record → Bool) (word : ℕ) (ms : Rows) (i : ℕ) → i < length ms →
     keepWord test word (drop i ms)
     ≡ digit (not (isFree word) && test (getD ms i nowhere)) + 2 * keepWord test (word / 2) (drop (i + 1) ms)

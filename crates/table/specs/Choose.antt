@@ -1,8 +1,8 @@
--- Choosing on a table: one pass marks the counted members, another finds the one that leads. Of a table, choosing looks at
--- the rate, the word and the members.
+-- Choosing on a table: one pass marks the counted members, another finds the one that leads. Of a table, choosing looks
+-- at the rate, the word and the members.
 use Prim.Native.Nat.{ℕ}
 use mathlib.Core.Bool.{Bool, cond, _&&_}
-use mathlib.Core.List.{List, [], _∷_}
+use mathlib.Core.List.{[], _∷_}
 use lib.Dec.{eqb}
 use lib.IntN.{ℤ}
 use Rattle.places.specs.Places.{heldIn}

@@ -1,7 +1,7 @@
 -- Lateness as the code holds it: a number that is not below 0, in two words.
-use Prim.Native.Nat.{ℕ, _+_, _-_, _*_, _/_, _%_, _^_, _<_}
+use Prim.Native.Nat.{ℕ, _+_, _-_, _*_, _/_, _%_, _^_}
 use mathlib.Core.Bool.{Bool, cond, _&&_, _||_}
-use mathlib.Core.List.{List, []}
+use mathlib.Core.List.{[]}
 use mathlib.Core.Path.{_≡_}
 use lib.Dec.{ltb, leb}
 use lib.IntN.{ℤ, pos}
@@ -15,7 +15,7 @@ use Rattle.register.specs.Choosing.{delayOf, targetOf}
 use Rattle.register.specs.Leader.{leader}
 use Rattle.table.specs.declared.choose.Late.{Late}
 use Rattle.table.specs.declared.choose.Lead.{Lead}
-use Rattle.table.specs.Members.{isFree, nowhere}
+use Rattle.table.specs.Members.{isFree, rowsAt, nowhere}
 use Rattle.table.specs.Choose.{led}
 
 -- lateness and 30 s more, which for a fresh row is not below 0: rate × (delay + 30 s − NTP age) + RTP age × 2^32
@@ -64,3 +64,10 @@ abbrev pub ledFrom : (Record → ℤ) → Bool → ℕ → Rows → ℕ → Rows
 ledFrom late arrival count members place rows =
     cond (ltb place 64) (targetOf arrival (leader late (getD members place nowhere) rows) count)
     (led late arrival count rows)
+
+-- a place leads among the members that a word marks: whatever the count, its choice is that of all of them
+abbrev pub IsLeading : ℕ → Reading → Bool → ℕ → Rows → ℕ → Type 0
+IsLeading rate at arrival word members place =
+    (count : ℕ) →
+    ledFrom (biasedLate rate at arrival) arrival count members place []
+    ≡ led (biasedLate rate at arrival) arrival count (rowsAt word members)

@@ -10,16 +10,15 @@ use times::presentation;
 use times::presentation_delay;
 use times::rtp_age;
 ghost use mathlib.Core.Bool.{not, cond, _&&_};
-ghost use mathlib.Core.List.{[]};
 ghost use mathlib.Core.Path.{_≡_};
-ghost use Prim.Native.Nat.{ℕ, _+_, _-_, _*_, _^_, _≤_, _<_};
+ghost use Prim.Native.Nat.{_+_, _-_, _*_, _^_, _≤_, _<_};
 ghost use Rattle.places.specs.Places.{heldIn};
 ghost use Rattle.times.specs.Times.{expanded};
 ghost use Rattle.register.specs.Register.{freshAt};
 ghost use Rattle.register.specs.Choosing.{delayOf, targetOf};
 ghost use Rattle.table.specs.Members.{isFree, digit, rowsAt};
 ghost use Rattle.table.specs.Choose.{atRate, freshWord, presentingWord, led, choiceAmong};
-ghost use Rattle.table.specs.Lateness.{biased, biasedLate, inTwo, leadOf, keepsLead, leadNext, ledFrom};
+ghost use Rattle.table.specs.Lateness.{biased, biasedLate, inTwo, leadOf, keepsLead, leadNext, IsLeading};
 
 // 30 s in units of 2^-32 s: as old as a fresh report can be.
 const LONGEST: u64 = 128849018880;
@@ -76,7 +75,8 @@ fn with_digit(word: u64, i: usize, yes: bool) -> u64
 
 // Each place in turn: the word's lowest digit marks it, and the word is halved.
 pub(crate) fn marks_at(held: u64, members: [Record; 64], rate: u32, at: Reading) -> Marks
-    ensures { λ r. ⌜ (r .fresh ≡ freshWord rate at held members) × (r .presenting ≡ presentingWord rate at held members) ⌝ }
+    ensures { λ r. ⌜ r .fresh ≡ freshWord rate at held members ⌝ }
+    ensures { λ r. ⌜ r .presenting ≡ presentingWord rate at held members ⌝ }
 {
     let mut fresh: u64 = 0;
     let mut presenting: u64 = 0;
@@ -191,7 +191,7 @@ fn lead_next(
 
 // The place of the member that leads among those that a word marks, or 64 where it marks none.
 fn leading_place(word: u64, members: [Record; 64], rate: u32, at: Reading, arrival: bool) -> usize
-    ensures { λ r. ⌜ ((n : ℕ) → ledFrom (biasedLate rate at arrival) arrival n members r [] ≡ led (biasedLate rate at arrival) arrival n (rowsAt word members)) ⌝ }
+    ensures { λ r. ⌜ IsLeading rate at arrival word members r ⌝ }
 {
     let mut lead = Lead {
         place: 64,
@@ -232,4 +232,26 @@ fn target_of(row: Record, arrival: bool, counted: u32) -> Choice
         presented,
         counted,
     })
+}
+
+// The one that leads among the members that a word marks, all of them counted, or 20 where it marks none.
+fn choice_in(word: u64, members: [Record; 64], rate: u32, at: Reading, arrival: bool) -> Choice
+    ensures { λ r. ⌜ r ≡ led (biasedLate rate at arrival) arrival (heldIn 64 word) (rowsAt word members) ⌝ }
+{
+    let place = leading_place(word, members, rate, at, arrival);
+    if 64 <= place {
+        return Choice::Refused(20);
+    }
+    target_of(members[place], arrival, count_held(word))
+}
+
+// The members that report presentation count; where none does, all that are fresh, in arrival mode.
+pub(crate) fn choice_at(held: u64, members: [Record; 64], rate: u32, at: Reading) -> Choice
+    ensures { λ r. ⌜ r ≡ choiceAmong rate at held members ⌝ }
+{
+    let marks = marks_at(held, members, rate, at);
+    if marks.presenting == 0 {
+        return choice_in(marks.fresh, members, rate, at, true);
+    }
+    choice_in(marks.presenting, members, rate, at, false)
 }

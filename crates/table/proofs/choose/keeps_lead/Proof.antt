@@ -24,12 +24,14 @@ returns-4 c =
 
 returns-5 : tie.Need-returns-5
 returns-5 c =
-    let x = c .before .before .before .before .before .before .before .before .before .before .before .before .before .before .args in
+    let from = c .before .before .before .before .before .before .before in
+    let x = from .before .before .before .before .before .before .before .args in
     keeps-earlier (x .a) (x .b) (omega arith) (omega arith)
 
 returns-6 : tie.Need-returns-6
 returns-6 c =
-    let x = c .before .before .before .before .before .before .before .before .before .before .before .before .before .before .before .before .args in
+    let from = c .before .before .before .before .before .before .before .before in
+    let x = from .before .before .before .before .before .before .before .before .args in
     keeps-alike (x .a) (x .b) (omega arith) (omega arith)
 
 pub keeps-lead-spec : {M : Type 1} → statement M

@@ -1,8 +1,7 @@
 -- Both products fit, the time being below 2^49; together they are the number, by the law `in-two-biased`.
-use Prim.Native.Nat.{ℕ, _*_, _/_, _%_, _≤_}
 use native.Mathlib.Omega.{arith}
 use borrow.Author.Needs.{needs}
-use Rattle.table.proofs.Leading.{product-bound, in-two-biased}
+use Rattle.table.proofs.Leading.{halves-bound, in-two-biased}
 use Rattle.table.proofs.choose.late_by.Statement.{statement}
 use Rattle.table.proofs.choose.late_by.Tie as tie
 
@@ -14,28 +13,22 @@ minus-requires c κs = search needs
 
 mul-low : tie.Need-mul-low
 mul-low c =
-    let low : c .before .args .rate * (c .minus .result % 4294967296) ≤ 4294967295 * 4294967295 =
-    product-bound _ _ 4294967295 4294967295 (omega arith) (omega arith) in
+    let halves : _ = halves-bound (c .before .args .rate) (c .minus .result) (omega arith) (omega arith) in
     record { fits = omega arith }
 
 mul-high : tie.Need-mul-high
 mul-high c =
-    let high : c .before .args .rate * (c .minus .result / 4294967296) ≤ 4294967295 * 131071 =
-    product-bound _ _ 4294967295 131071 (omega arith) (omega arith) in
+    let halves : _ = halves-bound (c .before .args .rate) (c .minus .result) (omega arith) (omega arith) in
     record { fits = omega arith }
 
 add-t9 : tie.Need-add-t9
 add-t9 c =
-    let high : c .before .args .rate * (c .minus .result / 4294967296) ≤ 4294967295 * 131071 =
-    product-bound _ _ 4294967295 131071 (omega arith) (omega arith) in
+    let halves : _ = halves-bound (c .before .args .rate) (c .minus .result) (omega arith) (omega arith) in
     record { fits = omega arith }
 
 add-t11 : tie.Need-add-t11
 add-t11 c =
-    let low : c .before .args .rate * (c .minus .result % 4294967296) ≤ 4294967295 * 4294967295 =
-    product-bound _ _ 4294967295 4294967295 (omega arith) (omega arith) in
-    let high : c .before .args .rate * (c .minus .result / 4294967296) ≤ 4294967295 * 131071 =
-    product-bound _ _ 4294967295 131071 (omega arith) (omega arith) in
+    let halves : _ = halves-bound (c .before .args .rate) (c .minus .result) (omega arith) (omega arith) in
     record { fits = omega arith }
 
 returns : tie.Need-returns

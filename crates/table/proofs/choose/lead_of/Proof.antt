@@ -1,8 +1,5 @@
 -- The lateness of the member's delay and ages.
-use Prim.Native.Nat.{ℕ}
-use mathlib.Core.Path.{_≡_, ap, _∙_}
 use borrow.Author.Needs.{needs}
-use Rattle.table.specs.Lateness.{biased, inTwo}
 use Rattle.table.proofs.choose.lead_of.Statement.{statement}
 use Rattle.table.proofs.choose.lead_of.Tie as tie
 

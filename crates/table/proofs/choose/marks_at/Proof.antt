@@ -1,7 +1,7 @@
 -- After i places each word has the digits of those that pass its test. The measure is how many places are left.
-use Prim.Native.Nat.{ℕ, _-_, _≤_, _<_}
+use Prim.Native.Nat.{_-_, _≤_, _<_}
 use mathlib.Core.Bool.{Bool, not, _&&_, and-assoc}
-use mathlib.Core.Path.{_≡_, ap, _∙_}
+use mathlib.Core.Path.{ap, _∙_}
 use lib.ListN.{length, getD}
 use native.Mathlib.Omega.{arith}
 use borrow.Author.Needs.{needs}
@@ -59,7 +59,8 @@ loop-again c =
     let presenting : _ =
     c .before .both .ensures
     ∙ ap (λ (t : Bool). t && presents row) marked
-    ∙ and-assoc (not (isFree (loop .word))) (freshAt (atRate (start .args .rate)) (start .args .at) row) (presents row) in (
+    ∙ and-assoc (not (isFree (loop .word))) (freshAt (atRate (start .args .rate)) (start .args .at) row)
+    (presents row) in (
       omega arith,
       kept-step _ within (loop .inv .1) marked (c .before .before .with-digit .ensures),
       kept-step _ within (loop .inv .2) presenting (c .with-digit2 .ensures),

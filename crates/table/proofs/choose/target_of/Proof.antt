@@ -1,8 +1,5 @@
 -- Each field from the member's own report.
-use Prim.Native.Nat.{ℕ}
-use mathlib.Core.Path.{ap}
 use borrow.Author.Needs.{needs}
-use Rattle.register.specs.declared.Choice.{Choice}
 use Rattle.table.proofs.choose.target_of.Statement.{statement}
 use Rattle.table.proofs.choose.target_of.Tie as tie
 
