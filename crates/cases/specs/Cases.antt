@@ -1,10 +1,9 @@
 -- The bench cases of document 01 that are marked P, as one list of statements about the definitions.
 use Prim.Native.Nat.{ℕ, _+_, _-_, _*_, _^_}
-use mathlib.Core.Bool.{Bool, true, false}
+use mathlib.Core.Bool.{true, false}
 use mathlib.Core.List.{List, [], _∷_}
 use mathlib.Core.Path.{_≡_}
 use lib.IntN.{pos}
-use Rattle.idms.specs.declared.Report.{Report}
 use Rattle.origin.specs.declared.Origin.{Origin}
 use Rattle.times.specs.Times.{ntpAge, delay, expanded, isFar, isAged, isBadlyPresented}
 use Rattle.register.specs.declared.Record.{Record}
@@ -15,7 +14,7 @@ use Rattle.register.specs.Choosing.{latenessOf}
 use Rattle.table.specs.declared.Table.{Table}
 use Rattle.table.specs.Calls.{opened, answered}
 use Rattle.table.specs.Choose.{choiceOf}
-use Rattle.table.specs.History.{answersFrom, tableFrom}
+use Rattle.table.specs.History.{tableFrom}
 use Rattle.writer.specs.Messages.{bytesOf, reportWords, settingsWords}
 
 -- ---- the table and the reading of every case that states no other

@@ -11,6 +11,7 @@ use Rattle.register.specs.declared.Choice.{Choice}
 use Rattle.register.specs.Register.{Rows, keep}
 use Rattle.register.specs.Choosing.{precedes, precedesAll, firstOf, targetOf}
 use Rattle.register.specs.Leader.{leader}
+use Rattle.register.proofs.Rows.{keep-no, keep-cong}
 use Rattle.register.proofs.Order.{≤ℤ-trans, precedes-true, precedes-refl, precedes-trans, precedes-total}
 
 -- ---- tests that agree
@@ -23,11 +24,6 @@ and-implied false t u h = refl
 implied-and : (s t u : Bool) → (t ≡ true → s ≡ true) → (s && (t && u)) ≡ (t && u)
 implied-and s true u h = rw (h refl) refl
 implied-and s false u h = and-false s
-
-keep-same : (f g : Record → Bool) → ((row : Record) → f row ≡ g row) → (rows : Rows) → keep f rows ≡ keep g rows
-unfolding keep
-keep-same f g same [] = refl
-keep-same f g same (row ∷ rows) = rw (same row, keep-same f g same rows) refl
 
 -- ---- the rows that precede all
 
@@ -73,10 +69,6 @@ first-skip arrival n test a b rows implies = go (test a) refl (test b) refl
     go false p true q = absurd (false≢true (sym p ∙ implies q))
     go false p false q = rw (p, q) refl
 
-keep-drop : (test : Record → Bool) (a : Record) (rows : Rows) → test a ≡ false → keep test (a ∷ rows) ≡ keep test rows
-unfolding keep
-keep-drop test a rows e = rw e refl
-
 -- the first row, in order, of those that precede all
 abbrev firstOfAll : (Record → ℤ) → Bool → ℕ → Rows → Choice
 firstOfAll late arrival n rows = firstOf arrival n (keep (λ row. precedesAll late row rows) rows)
@@ -93,8 +85,8 @@ first-of-preceded :
 unfolding precedesAll
 first-of-preceded late arrival n a b rows e =
     ap (firstOf arrival n)
-    (keep-same (λ row. precedesAll late row (a ∷ b ∷ rows)) (λ row. precedesAll late row (a ∷ rows))
-    (precedesAll-skip late a b rows e) (a ∷ b ∷ rows))
+    (keep-cong (λ row. precedesAll late row (a ∷ b ∷ rows)) (λ row. precedesAll late row (a ∷ rows)) (a ∷ b ∷ rows)
+    (precedesAll-skip late a b rows e))
     ∙ first-skip arrival n (λ row. precedesAll late row (a ∷ rows)) a b rows
     (λ h.
     rw (precedes-refl late a)
@@ -107,9 +99,9 @@ first-of-preceding :
 unfolding precedesAll
 first-of-preceding late arrival n a b rows e =
     ap (firstOf arrival n)
-    (keep-drop (λ row. precedesAll late row (a ∷ b ∷ rows)) a (b ∷ rows) (rw (e, precedes-refl late a) refl)
-    ∙ keep-same (λ row. precedesAll late row (a ∷ b ∷ rows)) (λ row. precedesAll late row (b ∷ rows))
-    (precedesAll-drop late a b rows (precedes-total late a b e)) (b ∷ rows))
+    (keep-no (λ row. precedesAll late row (a ∷ b ∷ rows)) a (b ∷ rows) (rw (e, precedes-refl late a) refl)
+    ∙ keep-cong (λ row. precedesAll late row (a ∷ b ∷ rows)) (λ row. precedesAll late row (b ∷ rows)) (b ∷ rows)
+    (precedesAll-drop late a b rows (precedes-total late a b e)))
 
 -- ---- leader
 

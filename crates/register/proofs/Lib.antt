@@ -1,6 +1,6 @@
 pub mod Rows
-pub mod Permuted
 pub mod Order
+pub mod Permuted
 pub mod Leading
 pub mod Standing
 pub mod Promised

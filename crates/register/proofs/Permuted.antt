@@ -1,16 +1,14 @@
 -- The register's calls and choosing respect a permutation of rows with distinct numbers: a call asks of the rows only
 -- what a permutation keeps, and of the rows chosen any two precede each other, so that there is one at most.
 use Prim.Native.Nat.{ℕ, _≤_}
-use mathlib.Core.Bool.{Bool, true, false, not, cond, _&&_, _||_}
+use mathlib.Core.Bool.{Bool, true, false, not, cond, _&&_, _||_, and-eq-true-iff}
 use mathlib.Core.List.{[], _∷_, List·Memᴰ, List·Memᴰ·head, List·Memᴰ·tail, List·Permᴰ, List·Permᴰ·nil, List·Permᴰ·cons, List·Permᴰ·swap, List·Permᴰ·trans, Permᴰ·refl, Permᴰ·symm}
 use mathlib.Core.Path.{_≡_, refl, ap, _∙_}
-use lib.Dec.{T, leb, eqb, le→leb, ltb→lt}
-use lib.IntN.{ℤ, pos, negsuc}
+use lib.Dec.{eqb}
+use lib.IntN.{ℤ}
 use lib.ListN.{length}
-use lib.Signed.{leZ, ltZ, _≤ℤ_, leZ-yes, ltZ-yes, clashℤ}
-use native.Mathlib.Nat.{le-of-lt}
 use native.Mathlib.Omega.{arith}
-use borrow.Author.Tests.{eqb-true, eq-eqb, leb-true}
+use borrow.Author.Tests.{eqb-true, eq-eqb}
 use Rattle.origin.specs.declared.Origin.{Origin}
 use Rattle.origin.specs.Origins.{sameOrigin}
 use Rattle.register.specs.declared.Record.{Record}
@@ -19,7 +17,8 @@ use Rattle.register.specs.declared.Choice.{Choice}
 use Rattle.register.specs.Register.{Opening, Rows, Call, keep, some, hasNumber, isHeldElsewhere, hasNoRoom, renewed, reportChecks, farewellChecks, answer, freshAt, accepted, after}
 use Rattle.register.specs.Choosing.{fresh, presents, isArrival, counted, latenessOf, precedes, precedesAll, firstOf, choice}
 use Rattle.register.specs.Promise.{Unique}
-use Rattle.register.proofs.Rows.{clash, keep-yes, keep-no, length-permuted, some-permuted, keep-permuted, cond-permuted, short-permuted, some-keep, some-and-none, none-kept, length-keep-cons, length-keep-keep, keep-cong, keep-not-none, keep-all, kept-member}
+use Rattle.register.proofs.Order.{precedes-true}
+use Rattle.register.proofs.Rows.{keep-yes, keep-no, length-permuted, some-permuted, keep-permuted, cond-permuted, short-permuted, some-keep, some-and-none, none-kept, length-keep-cons, length-keep-keep, keep-cong, keep-not-none, keep-all, kept-member}
 
 -- ---- distinct numbers
 
@@ -161,57 +160,14 @@ unique-after o call rows u =
 
 -- ---- two rows that precede each other have one number
 
-lt-le : (x y : ℤ) → T (ltZ x y) → T (leZ x y)
-lt-le (pos a) (pos b) t = le→leb a b (le-of-lt (ltb→lt a b t))
-lt-le (pos a) (negsuc b) t = t
-lt-le (negsuc a) (pos b) t = tt
-lt-le (negsuc a) (negsuc b) t = le→leb b a (le-of-lt (ltb→lt b a t))
-
--- of a test such as that of `precedes`, `s` the less, `u` the less or equal and `t` the numbers
-second-true : (s u t : Bool) → (s || (u && t)) ≡ true → (T s → T u) → T u
-second-true true u t e first = first tt
-second-true false true t e first = tt
-second-true false false t e first = clash e
-
-last-true : (s u t : Bool) → (s || (u && t)) ≡ true → (T s → ⊥) → t ≡ true
-last-true true u t e never = absurd (never tt)
-last-true false true t e never = e
-last-true false false t e never = clash e
-
-precedes-le : (late : Record → ℤ) (a b : Record) → precedes late a b ≡ true → late b ≤ℤ late a
-precedes-le late a b e =
-    leZ-yes
-    (second-true
-    (ltZ (late b) (late a))
-    (leZ (late b) (late a))
-    (leb (a .source) (b .source))
-    e
-    (lt-le (late b) (late a)))
-
-precedes-number :
-    (late : Record → ℤ) (a b : Record) → precedes late a b ≡ true → late a ≤ℤ late b → a .source ≤ b .source
-precedes-number late a b e h =
-    leb-true
-    (a .source)
-    (b .source)
-    (last-true
-    (ltZ (late b) (late a))
-    (leZ (late b) (late a))
-    (leb (a .source) (b .source))
-    e
-    (λ t. clashℤ (ltZ-yes t) h))
-
 pub precedes-both :
     (late : Record → ℤ) (a b : Record) → precedes late a b ≡ true → precedes late b a ≡ true → a .source ≡ b .source
 precedes-both late a b e f =
-    omega
-    (arith, precedes-number late a b e (precedes-le late b a f), precedes-number late b a f (precedes-le late a b e))
+    let before : _ = precedes-true late a b e in
+    let behind : _ = precedes-true late b a f in
+    omega (arith, before .1 (behind .0), behind .1 (before .0))
 
 -- ---- choosing
-
-and-true : (s t : Bool) → (s && t) ≡ true → (s ≡ true) × (t ≡ true)
-and-true true t e = (refl, e)
-and-true false t e = clash e
 
 and-swap : (s t u : Bool) → (s && (t && u)) ≡ (t && (s && u))
 and-swap true t u = refl
@@ -236,9 +192,9 @@ pub precedes-member :
     precedes late a b ≡ true
 unfolding precedesAll
 precedes-member late a b (r ∷ rows) e (List·Memᴰ·head q) =
-    ap (precedes late a) q ∙ and-true (precedes late a r) (precedesAll late a rows) e .0
+    ap (precedes late a) q ∙ and-eq-true-iff (precedes late a r) (precedesAll late a rows) .0 e .0
 precedes-member late a b (r ∷ rows) e (List·Memᴰ·tail m) =
-    precedes-member late a b rows (and-true (precedes late a r) (precedesAll late a rows) e .1) m
+    precedes-member late a b rows (and-eq-true-iff (precedes late a r) (precedesAll late a rows) .0 e .1) m
 
 -- rows of one number
 one-number-short :

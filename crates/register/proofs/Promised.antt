@@ -1,76 +1,29 @@
 -- Choosing keeps demand 3's promise on sound rows: the leading row's lateness is the greatest of the counted rows', and
 -- the three times answered give it back.
-use Prim.Native.Nat.{ℕ, suc, _*_, _^_, _<_}
-use mathlib.Core.Bool.{Bool, true, false, not, cond, _&&_, _||_, true≢false}
-use mathlib.Core.List.{[], _∷_, List·Memᴰ, List·Memᴰ·head, List·Memᴰ·tail, List·Memᴰ·not-nil}
+use Prim.Native.Nat.{ℕ, _*_, _^_, _<_}
+use mathlib.Core.Bool.{Bool, true, false, cond, _||_, true≢false}
+use mathlib.Core.List.{[], _∷_, List·Memᴰ, List·Memᴰ·not-nil}
 use mathlib.Core.Path.{_≡_, refl, sym, ap, subst, _∙_}
 use lib.Dec.{eqb, ltb}
 use lib.IntN.{ℤ, pos, _*ℤ_, +ℤ-idr}
 use lib.ListN.{length}
 use lib.Signed.{_≤ℤ_}
 use native.Mathlib.Omega.{arith}
-use borrow.Author.Tests.{eqb-true}
-use Rattle.times.specs.Times.{ntpAge, delay, expanded, isFar, isAged, isBadlyPresented}
+use Rattle.times.specs.Times.{ntpAge, delay, expanded, isBadlyPresented}
 use Rattle.times.proofs.Laws.{expanded-by-delay, delay-bound}
 use Rattle.register.specs.declared.Record.{Record}
 use Rattle.register.specs.declared.Reading.{Reading}
 use Rattle.register.specs.declared.Choice.{Choice}
-use Rattle.register.specs.Register.{Opening, Rows, Call, keep, some, hasNumber, isHeldElsewhere, renewed, reportChecks, hasNoRoom, answer, freshAt, accepted, after}
+use Rattle.register.specs.Register.{Opening, Rows, keep, some, freshAt}
 use Rattle.register.specs.Choosing.{fresh, presents, isArrival, counted, delayOf, latenessOf, precedesAll, targetOf, firstOf, choice, delayBetween, targetLateness, moment}
 use Rattle.register.specs.Leader.{leader}
-use Rattle.register.specs.Promise.{InRange, Promised}
+use Rattle.register.specs.Promise.{Promised}
+use Rattle.register.proofs.Rows.{none-kept, kept-member}
 use Rattle.register.proofs.Order.{≤ℤ-shift}
 use Rattle.register.proofs.Leading.{leader-chosen, leader-member, leader-greatest}
 use Rattle.register.proofs.Standing.{SoundRow, Sound}
 
--- ---- rows kept
-
-kept-step :
-    (test : Record → Bool) (row x : Record) (rows : Rows) →
-    (List·Memᴰ row (keep test rows) → List·Memᴰ row rows × (test row ≡ true)) →
-    List·Memᴰ row (keep test (x ∷ rows)) →
-    List·Memᴰ row (x ∷ rows) × (test row ≡ true)
-unfolding keep
-kept-step test row x rows rest member = go (test x) refl
-  where
-    behind : List·Memᴰ row (keep test rows) → List·Memᴰ row (x ∷ rows) × (test row ≡ true)
-    behind m = let r : _ = rest m in (List·Memᴰ·tail (r .0), r .1)
-
-    first : test x ≡ true → List·Memᴰ row (x ∷ keep test rows) → List·Memᴰ row (x ∷ rows) × (test row ≡ true)
-    first e (List·Memᴰ·head q) = (List·Memᴰ·head q, ap test q ∙ e)
-    first e (List·Memᴰ·tail m) = behind m
-
-    go : (t : Bool) → test x ≡ t → List·Memᴰ row (x ∷ rows) × (test row ≡ true)
-    go true e = first e (rw e at member)
-    go false e = behind (rw e at member)
-
--- a kept row is one of the rows, and passes
-member-kept :
-    (test : Record → Bool) (row : Record) (rows : Rows) → List·Memᴰ row (keep test rows) →
-    List·Memᴰ row rows × (test row ≡ true)
-unfolding keep
-member-kept test row [] member = absurd (List·Memᴰ·not-nil member)
-member-kept test row (x ∷ rows) member = kept-step test row x rows (member-kept test row rows) member
-
 -- ---- rows counted
-
-none-step :
-    (test : Record → Bool) (x : Record) (rows : Rows) → (keep test rows ≡ [] → some test rows ≡ false) →
-    keep test (x ∷ rows) ≡ [] →
-    some test (x ∷ rows) ≡ false
-unfolding keep some
-none-step test x rows rest e = go (test x) refl
-  where
-    go : (t : Bool) → test x ≡ t → some test (x ∷ rows) ≡ false
-    go true p =
-        let cons : (x ∷ keep test rows) ≡ [] = rw p at e in
-        absurd (List·Memᴰ·not-nil (subst (List·Memᴰ x) cons (List·Memᴰ·head refl)))
-    go false p = rw p (rest (rw p at e))
-
-none-kept : (test : Record → Bool) (rows : Rows) → keep test rows ≡ [] → some test rows ≡ false
-unfolding keep some
-none-kept test [] e = refl
-none-kept test (x ∷ rows) e = none-step test x rows (none-kept test rows) e
 
 -- counted is empty exactly where no row is fresh
 pub counted-none-fresh : (o : Opening) (at : Reading) (rows : Rows) → counted o at rows ≡ [] → fresh o at rows ≡ []
@@ -79,7 +32,7 @@ counted-none-fresh o at rows e = go (isArrival o at rows) refl
     go : (t : Bool) → isArrival o at rows ≡ t → fresh o at rows ≡ []
     go true p = rw p at e
     go false p =
-        let none : _ = none-kept presents (fresh o at rows) (rw p at e) in
+        let none : _ = none-kept presents (fresh o at rows) (ap length (rw p at e)) in
         absurd (true≢false (rw none at p))
 
 pub fresh-none-counted : (o : Opening) (at : Reading) (rows : Rows) → fresh o at rows ≡ [] → counted o at rows ≡ []
@@ -96,10 +49,10 @@ counted-member o at rows row member = go (isArrival o at rows) refl
         (t : Bool) → isArrival o at rows ≡ t →
         List·Memᴰ row rows × (isArrival o at rows ≡ false → presents row ≡ true)
     go true e =
-        (member-kept (freshAt o at) row rows (rw e at member) .0, λ h. absurd (true≢false (sym e ∙ h)))
+        (kept-member (freshAt o at) row rows (rw e at member) .1, λ h. absurd (true≢false (sym e ∙ h)))
     go false e =
-        let kept : _ = member-kept presents row (fresh o at rows) (rw e at member) in
-        (member-kept (freshAt o at) row rows (kept .0) .0, λ h. kept .1)
+        let kept : _ = kept-member presents row (fresh o at rows) (rw e at member) in
+        (kept-member (freshAt o at) row rows (kept .1) .1, λ h. kept .0)
 
 -- ---- the answer's lateness
 

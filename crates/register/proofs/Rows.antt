@@ -218,3 +218,31 @@ kept-member test x (y ∷ ys) m = go (test y) refl m (kept-member test x ys)
     go true e (List·Memᴰ·head q) rest = (ap test q ∙ e, List·Memᴰ·head q)
     go true e (List·Memᴰ·tail m′) rest = let found : _ = rest m′ in (found .0, List·Memᴰ·tail (found .1))
     go false e m′ rest = let found : _ = rest m′ in (found .0, List·Memᴰ·tail (found .1))
+
+-- ---- two tests, one after the other
+
+keep-both-step :
+    {A : Type 0} (s t : A → Bool) (x : A) (xs : List A) (b : Bool) → s x ≡ b →
+    keep (λ y. s y && t y) xs ≡ keep t (keep s xs) →
+    keep (λ y. s y && t y) (x ∷ xs) ≡ keep t (keep s (x ∷ xs))
+unfolding keep
+keep-both-step {A} s t x xs true e rest = rw e (ap (λ (ys : List A). cond (t x) (x ∷ ys) ys) rest)
+keep-both-step s t x xs false e rest = rw e rest
+
+pub keep-both : {A : Type 0} (s t : A → Bool) (xs : List A) → keep (λ y. s y && t y) xs ≡ keep t (keep s xs)
+unfolding keep
+keep-both s t [] = refl
+keep-both s t (x ∷ xs) = keep-both-step s t x xs (s x) refl (keep-both s t xs)
+
+some-both-step :
+    {A : Type 0} (s t : A → Bool) (x : A) (xs : List A) (b : Bool) → s x ≡ b →
+    some (λ y. s y && t y) xs ≡ some t (keep s xs) →
+    some (λ y. s y && t y) (x ∷ xs) ≡ some t (keep s (x ∷ xs))
+unfolding some keep
+some-both-step s t x xs true e rest = rw e (ap (λ (b : Bool). t x || b) rest)
+some-both-step s t x xs false e rest = rw e rest
+
+pub some-both : {A : Type 0} (s t : A → Bool) (xs : List A) → some (λ y. s y && t y) xs ≡ some t (keep s xs)
+unfolding some keep
+some-both s t [] = refl
+some-both s t (x ∷ xs) = some-both-step s t x xs (s x) refl (some-both s t xs)

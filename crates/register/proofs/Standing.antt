@@ -1,7 +1,7 @@
 -- What an accepted report passed, and that every row of the register stands on such a report.
 use Prim.Native.Nat.{ℕ, suc, _^_, _<_}
 use mathlib.Core.Bool.{Bool, true, false, not, cond, _&&_}
-use mathlib.Core.List.{List, [], _∷_, List·Memᴰ, List·Memᴰ·head, List·Memᴰ·tail, List·Memᴰ·not-nil}
+use mathlib.Core.List.{[], _∷_, List·Memᴰ, List·Memᴰ·head, List·Memᴰ·tail, List·Memᴰ·not-nil}
 use mathlib.Core.Path.{_≡_, refl, sym, subst}
 use lib.Dec.{eqb}
 use native.Mathlib.Omega.{arith}
@@ -9,7 +9,7 @@ use borrow.Author.Tests.{eqb-true}
 use Rattle.times.specs.Times.{isFar, isAged, isBadlyPresented}
 use Rattle.register.specs.declared.Record.{Record}
 use Rattle.register.specs.declared.Reading.{Reading}
-use Rattle.register.specs.Register.{Opening, Rows, Call, keep, hasNumber, isHeldElsewhere, renewed, reportChecks, hasNoRoom, answer, freshAt, accepted, after}
+use Rattle.register.specs.Register.{Opening, Rows, Call, hasNumber, isHeldElsewhere, renewed, reportChecks, hasNoRoom, answer, freshAt, accepted, after}
 use Rattle.register.specs.Promise.{InRange}
 use Rattle.register.proofs.Rows.{clash, kept-member}
 

@@ -6,7 +6,6 @@ use mathlib.Core.List.{List, [], _∷_}
 use mathlib.Core.Path.{_≡_, refl}
 use lib.IntN.{pos}
 use Rattle.times.specs.Times.{ntpAge, rtpAge, step, unwrapped, expanded, delay}
-use Rattle.idms.specs.declared.Report.{Report}
 use Rattle.origin.specs.declared.Origin.{Origin}
 use Rattle.origin.specs.Origins.{sameBytes, sameOrigin}
 use Rattle.register.specs.declared.Record.{Record}

@@ -1,6 +1,6 @@
 -- Choosing by one walk over the counted rows. Not the papers' statement: the laws show that it gives the row of `chosen`.
 use mathlib.Core.Bool.{cond}
-use mathlib.Core.List.{List, [], _∷_}
+use mathlib.Core.List.{[], _∷_}
 use lib.IntN.{ℤ}
 use Rattle.register.specs.declared.Record.{Record}
 use Rattle.register.specs.Register.{Rows}

@@ -2,14 +2,14 @@
 -- word is halved along the list, so each law is an induction over the places.
 use Prim.Native.Nat.{ℕ, zero, suc, _+_, _-_, _*_, _/_, _%_, _^_, _≤_, _<_}
 use mathlib.Core.Bool.{Bool, true, false, not, cond, _&&_, _||_}
-use mathlib.Core.List.{List, [], _∷_, List·Permᴰ, List·Permᴰ·nil, List·Permᴰ·cons, List·Permᴰ·swap, List·Permᴰ·trans, Permᴰ·refl}
-use mathlib.Core.Path.{_≡_, refl, sym, ap, _∙_, subst}
-use lib.Dec.{eqb, ltb}
+use mathlib.Core.List.{[], _∷_, List·Permᴰ, List·Permᴰ·cons, List·Permᴰ·swap, List·Permᴰ·trans, Permᴰ·refl}
+use mathlib.Core.Path.{_≡_, refl, sym, ap, _∙_}
+use lib.Dec.{eqb}
 use lib.ListN.{length, getD, set}
-use native.Mathlib.Nat.{pow-zero, pow-suc}
+use native.Mathlib.Nat.{pow-suc}
 use native.Mathlib.Omega.{arith}
 use borrow.Author.Tests.{eqb-true, eqb-false, eq-eqb, ne-eqb}
-use Rattle.places.specs.Places.{isHeld, heldIn, lowestFree}
+use Rattle.places.specs.Places.{isHeld, heldIn}
 use Rattle.register.specs.declared.Record.{Record}
 use Rattle.register.specs.Register.{Rows, keep, some, hasNumber}
 use Rattle.register.proofs.Rows.{clash}

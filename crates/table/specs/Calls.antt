@@ -7,7 +7,6 @@ use Rattle.origin.specs.declared.Origin.{Origin}
 use Rattle.origin.specs.Origins.{sameOrigin}
 use Rattle.places.specs.Places.{lowestFree}
 use Rattle.register.specs.declared.Record.{Record}
-use Rattle.register.specs.declared.Reading.{Reading}
 use Rattle.register.specs.Register.{Opening, Call, isRefusedOpening, reportChecks, farewellChecks, freshAt}
 use Rattle.table.specs.declared.Table.{Table}
 use Rattle.table.specs.declared.Answered.{Answered}

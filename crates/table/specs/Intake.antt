@@ -1,9 +1,7 @@
 -- The intake: a report or a farewell is taken out of what the reader gives at an index, and is a call under its origin and
 -- reading. Other items are passed by.
-use Prim.Native.Nat.{ℕ}
 use Rattle.idms.specs.declared.Found.{Found}
 use Rattle.idms.specs.declared.Item.{Item}
-use Rattle.idms.specs.declared.Refusal.{Refusal}
 use Rattle.idms.specs.declared.Report.{Report}
 use Rattle.origin.specs.declared.Origin.{Origin}
 use Rattle.register.specs.declared.Record.{Record}

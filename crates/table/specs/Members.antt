@@ -1,10 +1,9 @@
 -- The member table (document 01): 64 places, of which a single word marks those held, its lowest digit the first place.
-use Prim.Native.Nat.{ℕ, _+_, _-_, _*_, _/_, _%_, _^_}
+use Prim.Native.Nat.{ℕ, _+_, _*_, _/_, _%_}
 use mathlib.Core.Bool.{Bool, true, false, not, cond, _&&_}
 use mathlib.Core.List.{List, [], _∷_}
 use lib.Dec.{ltb, eqb}
 use lib.ListN.{getD, replicate}
-use Rattle.origin.specs.declared.Origin.{Origin}
 use Rattle.places.specs.Places.{isHeld, heldIn}
 use Rattle.register.specs.declared.Record.{Record}
 use Rattle.register.specs.Register.{Opening, Rows, hasNumber}

@@ -1,54 +1,26 @@
 -- Choosing on a table is the register's choice of its members, for every table of 64 places: the counted word marks the
 -- counted rows, and the row that leads is the one of greatest lateness and lowest number.
-use Prim.Native.Nat.{ℕ, zero, suc, _+_, _*_, _/_, _%_}
-use mathlib.Core.Bool.{Bool, true, false, not, cond, _&&_, _||_}
-use mathlib.Core.List.{List, [], _∷_}
+use Prim.Native.Nat.{ℕ, _+_, _*_, _/_}
+use mathlib.Core.Bool.{Bool, true, false, not, _&&_, _||_}
+use mathlib.Core.List.{[], _∷_}
 use mathlib.Core.Path.{_≡_, refl, sym, ap, _∙_}
 use lib.Dec.{eqb}
 use lib.IntN.{ℤ}
 use lib.ListN.{length}
 use native.Mathlib.Omega.{arith}
-use borrow.Author.Tests.{eq-eqb, ne-eqb}
+use borrow.Author.Tests.{ne-eqb}
 use Rattle.places.specs.Places.{heldIn}
 use Rattle.places.proofs.Laws.{eqb-same}
 use Rattle.register.specs.declared.Record.{Record}
 use Rattle.register.specs.declared.Reading.{Reading}
-use Rattle.register.specs.declared.Choice.{Choice}
-use Rattle.register.specs.Register.{Opening, Rows, keep, some, freshAt}
-use Rattle.register.specs.Choosing.{fresh, presents, isArrival, counted, latenessOf, targetOf, choice}
+use Rattle.register.specs.Register.{Opening, Rows, some, freshAt}
+use Rattle.register.specs.Choosing.{presents, isArrival, counted, latenessOf, choice}
+use Rattle.register.proofs.Rows.{keep-both, some-both}
 use Rattle.register.proofs.Promised.{choice-none, choice-leading}
 use Rattle.table.specs.declared.Table.{Table}
 use Rattle.table.specs.Members.{openingOf, isFree, rowsAt, membersOf, digit, keepWord}
-use Rattle.table.specs.Choose.{atRate, freshWord, presentingWord, arrives, countedWord, led, choiceIn, choiceAmong, choiceOf}
+use Rattle.table.specs.Choose.{arrives, countedWord, led, choiceAmong, choiceOf}
 use Rattle.table.proofs.Seats.{rows-free, rows-held, rows-keepWord, ones-of-rows}
-
--- ---- two tests, one after the other
-
-keep-both-step :
-    {A : Type 0} (s t : A → Bool) (x : A) (xs : List A) (b : Bool) → s x ≡ b →
-    keep (λ y. s y && t y) xs ≡ keep t (keep s xs) →
-    keep (λ y. s y && t y) (x ∷ xs) ≡ keep t (keep s (x ∷ xs))
-unfolding keep
-keep-both-step {A} s t x xs true e rest = rw e (ap (λ (ys : List A). cond (t x) (x ∷ ys) ys) rest)
-keep-both-step s t x xs false e rest = rw e rest
-
-keep-both : {A : Type 0} (s t : A → Bool) (xs : List A) → keep (λ y. s y && t y) xs ≡ keep t (keep s xs)
-unfolding keep
-keep-both s t [] = refl
-keep-both s t (x ∷ xs) = keep-both-step s t x xs (s x) refl (keep-both s t xs)
-
-some-both-step :
-    {A : Type 0} (s t : A → Bool) (x : A) (xs : List A) (b : Bool) → s x ≡ b →
-    some (λ y. s y && t y) xs ≡ some t (keep s xs) →
-    some (λ y. s y && t y) (x ∷ xs) ≡ some t (keep s (x ∷ xs))
-unfolding some keep
-some-both-step s t x xs true e rest = rw e (ap (λ (b : Bool). t x || b) rest)
-some-both-step s t x xs false e rest = rw e rest
-
-some-both : {A : Type 0} (s t : A → Bool) (xs : List A) → some (λ y. s y && t y) xs ≡ some t (keep s xs)
-unfolding some keep
-some-both s t [] = refl
-some-both s t (x ∷ xs) = some-both-step s t x xs (s x) refl (some-both s t xs)
 
 -- ---- the counted word
 

@@ -1,10 +1,10 @@
 -- One call on a table and on the register whose rows agree with its members: the same answer, and they agree afterwards.
-use Prim.Native.Nat.{ℕ, zero, suc, _+_, _-_, _^_, _≤_, _<_}
-use mathlib.Core.Bool.{Bool, true, false, not, cond, _&&_, _||_}
-use mathlib.Core.List.{List, [], _∷_, List·Permᴰ, List·Permᴰ·cons, List·Permᴰ·trans, Permᴰ·refl, Permᴰ·symm}
+use Prim.Native.Nat.{ℕ, _-_, _^_, _≤_, _<_}
+use mathlib.Core.Bool.{Bool, true, false, not, _&&_, _||_}
+use mathlib.Core.List.{_∷_, List·Permᴰ, List·Permᴰ·cons, List·Permᴰ·trans, Permᴰ·symm}
 use mathlib.Core.Path.{_≡_, refl, sym, ap, _∙_}
-use lib.Dec.{eqb, ltb}
-use lib.ListN.{length, getD, set, length-set}
+use lib.Dec.{eqb}
+use lib.ListN.{length, getD, length-set}
 use native.Mathlib.Omega.{arith}
 use borrow.Author.Tests.{eqb-true, eqb-false, eq-eqb, ltb-true, ltb-false}
 use Rattle.origin.specs.declared.Origin.{Origin}
@@ -12,16 +12,14 @@ use Rattle.origin.specs.Origins.{sameOrigin}
 use Rattle.places.specs.Places.{isHeld, heldIn, lowestFree}
 use Rattle.places.proofs.Laws.{lowest-free-within, lowest-free-is-free, full-held}
 use Rattle.register.specs.declared.Record.{Record}
-use Rattle.register.specs.declared.Reading.{Reading}
-use Rattle.register.specs.Register.{Opening, Rows, Call, keep, some, hasNumber, isHeldElsewhere, hasNoRoom, renewed, reportChecks, farewellChecks, freshAt, answer, accepted, after}
+use Rattle.register.specs.Register.{Opening, Rows, Call, keep, some, hasNumber, isHeldElsewhere, hasNoRoom, renewed, farewellChecks, freshAt, answer, accepted, after}
 use Rattle.register.specs.Promise.{Unique}
 use Rattle.register.proofs.Rows.{some-permuted, keep-permuted, length-permuted, some-keep, some-and-none}
 use Rattle.register.proofs.Standing.{accepted-passed}
 use Rattle.register.proofs.Permuted.{unique-permuted, unique-after, without-own, elsewhere-own, renewed-form}
 use Rattle.table.specs.declared.Table.{Table}
-use Rattle.table.specs.declared.Answered.{Answered}
-use Rattle.table.specs.Members.{openingOf, nowhere, rowsAt, membersOf, placeOf, placeIn, keepWord}
-use Rattle.table.specs.Calls.{isMember, isElsewhere, isWithoutRoom, numberOf, withHeld, withMember, filed, acceptedBy, refusedBy, answered}
+use Rattle.table.specs.Members.{openingOf, nowhere, rowsAt, membersOf, placeIn}
+use Rattle.table.specs.Calls.{isMember, isElsewhere, isWithoutRoom, numberOf, filed, acceptedBy, answered}
 use Rattle.table.proofs.Seats.{place-found, rows-own, rows-renew, rows-insert, rows-keepWord, ones-of-rows}
 
 -- a table whose 64 places hold the rows, each number once
