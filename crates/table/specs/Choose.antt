@@ -1,5 +1,5 @@
--- Choosing on a table: one pass marks the counted members, another finds the one that leads. Of a table, choosing looks at
--- the rate, the word and the members.
+-- Choosing on a table: one pass marks the counted members, another finds the one that leads. Of a table, choosing looks
+-- at the rate, the word and the members.
 use Prim.Native.Nat.{ℕ}
 use mathlib.Core.Bool.{Bool, cond, _&&_}
 use mathlib.Core.List.{[], _∷_}

@@ -1,4 +1,6 @@
 // The member table of one synchronization group: 64 places, and one word that marks those held.
+mod choose;
+
 use idms::Refusal;
 use register::Choice;
 use register::Record;

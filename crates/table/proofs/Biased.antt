@@ -1,0 +1,182 @@
+-- The biased number orders fresh rows as lateness does: it is lateness plus the same 30 s for each. So the row that
+-- leads by one leads by the other.
+use Prim.Native.Nat.{ℕ, _+_, _-_, _*_, _^_, _≤_}
+use mathlib.Core.Bool.{Bool, true, false, not, cond, _&&_, and-eq-true-iff}
+use mathlib.Core.List.{[], _∷_}
+use mathlib.Core.Path.{_≡_, refl, sym, ap, _∙_}
+use lib.Dec.{leb}
+use lib.IntN.{ℤ}
+use lib.Signed.{leZ}
+use native.Mathlib.Omega.{arith}
+use borrow.Author.Tests.{eq-eqb, ne-eqb, not-true, ltb-false, leb-true, leb-false, le-leb, lt-leb}
+use Rattle.places.specs.Places.{heldIn}
+use Rattle.times.specs.Times.{ntpAge, rtpAge, isFar, isAged}
+use Rattle.register.specs.declared.Record.{Record}
+use Rattle.register.specs.declared.Reading.{Reading}
+use Rattle.register.specs.declared.Choice.{Choice}
+use Rattle.register.specs.Register.{Rows, keep, freshAt}
+use Rattle.register.specs.Choosing.{lateness, latenessOf, delayOf, precedes, presents, targetOf}
+use Rattle.register.specs.Leader.{leader}
+use Rattle.register.proofs.Order.{ltZ-not-leZ, leZ-subℕ, lateness-subℕ}
+use Rattle.register.proofs.Rows.{keep-yes, keep-no}
+use Rattle.table.specs.Members.{rowsAt, keepWord}
+use Rattle.table.specs.Choose.{atRate, freshWord, presentingWord, led, choiceAmong}
+use Rattle.table.specs.Lateness.{biased, biasedLate}
+use Rattle.table.proofs.Seats.{rows-keepWord}
+use Rattle.table.proofs.Leading.{leader-next}
+
+-- ---- the order of two numbers
+
+leb-difference : (m n p q : ℕ) → m + q ≡ n + p → leb m n ≡ leb p q
+leb-difference m n p q e = go (leb p q) refl
+  where
+    go : (t : Bool) → leb p q ≡ t → leb m n ≡ leb p q
+    go true s = le-leb m n (omega (arith, leb-true p q s)) ∙ sym s
+    go false s = lt-leb m n (omega (arith, leb-false p q s)) ∙ sym s
+
+biased-sum :
+    (rate delay age ticks : ℕ) → age ≤ 30 * 2 ^ 32 →
+    biased rate delay age ticks + rate * age ≡ rate * delay + ticks * 2 ^ 32 + rate * (30 * 2 ^ 32)
+unfolding biased
+biased-sum rate delay age ticks h =
+    let time : ℕ = delay + 30 * 2 ^ 32 - age in
+    let sum : time + age ≡ delay + 30 * 2 ^ 32 = omega arith in
+    let product : rate * (time + age) ≡ rate * (delay + 30 * 2 ^ 32) = ap (λ (n : ℕ). rate * n) sum in
+    omega (arith, product)
+
+leZ-lateness :
+    (rate d a t d′ a′ t′ : ℕ) → a ≤ 30 * 2 ^ 32 → a′ ≤ 30 * 2 ^ 32 →
+    leZ (lateness rate d a t) (lateness rate d′ a′ t′) ≡ leb (biased rate d a t) (biased rate d′ a′ t′)
+leZ-lateness rate d a t d′ a′ t′ h h′ =
+    rw (lateness-subℕ rate d a t, lateness-subℕ rate d′ a′ t′)
+    (leZ-subℕ (rate * d + t * 2 ^ 32) (rate * a) (rate * d′ + t′ * 2 ^ 32) (rate * a′)
+    ∙ leb-difference (rate * d + t * 2 ^ 32 + rate * a′) (rate * d′ + t′ * 2 ^ 32 + rate * a)
+    (biased rate d a t)
+    (biased rate d′ a′ t′)
+    (omega (arith, biased-sum rate d a t h, biased-sum rate d′ a′ t′ h′)))
+
+-- ---- the order of two fresh rows
+
+fresh-age :
+    (rate : ℕ) (at : Reading) (row : Record) → freshAt (atRate rate) at row ≡ true →
+    ntpAge (at .ntp) (row .report .received) ≤ 30 * 2 ^ 32
+fresh-age rate at row e =
+    let far : Bool = isFar (at .ntp) (row .report .received) in
+    let near : not far ≡ true =
+    and-eq-true-iff (not far) (not (isAged rate (at .rtp) (row .report .rtp))) .0 e .0 in
+    ltb-false (30 * 2 ^ 32) (ntpAge (at .ntp) (row .report .received)) (not-true far near)
+
+leZ-biased :
+    (rate : ℕ) (at : Reading) (arrival : Bool) (a b : Record) →
+    freshAt (atRate rate) at a ≡ true → freshAt (atRate rate) at b ≡ true →
+    leZ (latenessOf (atRate rate) at arrival a) (latenessOf (atRate rate) at arrival b)
+    ≡ leZ (biasedLate rate at arrival a) (biasedLate rate at arrival b)
+leZ-biased rate at arrival a b p q =
+    leZ-lateness rate (delayOf arrival a) (ntpAge (at .ntp) (a .report .received)) (rtpAge (at .rtp) (a .report .rtp))
+    (delayOf arrival b)
+    (ntpAge (at .ntp) (b .report .received))
+    (rtpAge (at .rtp) (b .report .rtp))
+    (fresh-age rate at a p)
+    (fresh-age rate at b q)
+
+-- two measures of lateness order two rows alike
+precedes-alike :
+    (f g : Record → ℤ) (a b : Record) → leZ (f a) (f b) ≡ leZ (g a) (g b) → leZ (f b) (f a) ≡ leZ (g b) (g a) →
+    precedes f a b ≡ precedes g a b
+precedes-alike f g a b p q = rw (ltZ-not-leZ (f b) (f a), ltZ-not-leZ (g b) (g a), p, q) refl
+
+-- ---- the row that leads, among rows that pass a test
+
+-- two measures of lateness order alike the rows that pass a test
+abbrev Alike : (Record → Bool) → (f g : Record → ℤ) → Type 0
+Alike test f g = (a b : Record) → test a ≡ true → test b ≡ true → precedes f a b ≡ precedes g a b
+
+passes-either :
+    (test : Record → Bool) (a b : Record) (t : Bool) → test a ≡ true → test b ≡ true → test (cond t a b) ≡ true
+passes-either test a b true p q = p
+passes-either test a b false p q = q
+
+leader-alike-step :
+    (test : Record → Bool) (f g : Record → ℤ) → Alike test f g → (a b : Record) (rows : Rows) → test a ≡ true →
+    ((x : Record) → test x ≡ true → leader f x (keep test rows) ≡ leader g x (keep test rows)) →
+    (t : Bool) → test b ≡ t → leader f a (keep test (b ∷ rows)) ≡ leader g a (keep test (b ∷ rows))
+leader-alike-step test f g alike a b rows p same true q =
+    let later : Bool = precedes g a b in
+    rw (keep-yes test b rows q)
+    (leader-next f a b (keep test rows) later (alike a b p q)
+    ∙ same (cond later a b) (passes-either test a b later p q)
+    ∙ sym (leader-next g a b (keep test rows) later refl))
+leader-alike-step test f g alike a b rows p same false q = rw (keep-no test b rows q) (same a p)
+
+leader-alike :
+    (test : Record → Bool) (f g : Record → ℤ) → Alike test f g → (rows : Rows) (a : Record) → test a ≡ true →
+    leader f a (keep test rows) ≡ leader g a (keep test rows)
+unfolding leader keep
+leader-alike test f g alike [] a p = refl
+leader-alike test f g alike (b ∷ rows) a p =
+    leader-alike-step test f g alike a b rows p (leader-alike test f g alike rows) (test b) refl
+
+led-alike-step :
+    (test : Record → Bool) (f g : Record → ℤ) → Alike test f g → (arrival : Bool) (n : ℕ) (row : Record) (rows : Rows) →
+    led f arrival n (keep test rows) ≡ led g arrival n (keep test rows) →
+    (t : Bool) → test row ≡ t → led f arrival n (keep test (row ∷ rows)) ≡ led g arrival n (keep test (row ∷ rows))
+unfolding led
+led-alike-step test f g alike arrival n row rows same true p =
+    rw (keep-yes test row rows p)
+    (ap (λ (x : Record). targetOf arrival x n) (leader-alike test f g alike rows row p))
+led-alike-step test f g alike arrival n row rows same false p = rw (keep-no test row rows p) same
+
+led-alike :
+    (test : Record → Bool) (f g : Record → ℤ) → Alike test f g → (arrival : Bool) (n : ℕ) (rows : Rows) →
+    led f arrival n (keep test rows) ≡ led g arrival n (keep test rows)
+unfolding led keep
+led-alike test f g alike arrival n [] = refl
+led-alike test f g alike arrival n (row ∷ rows) =
+    led-alike-step test f g alike arrival n row rows (led-alike test f g alike arrival n rows) (test row) refl
+
+-- ---- choosing
+
+-- among the members that a kept word marks, where the test lets only fresh ones pass
+led-biased :
+    (rate : ℕ) (at : Reading) (arrival : Bool) (test : Record → Bool) (n word : ℕ) (ms : Rows) →
+    ((row : Record) → test row ≡ true → freshAt (atRate rate) at row ≡ true) →
+    led (biasedLate rate at arrival) arrival n (rowsAt (keepWord test word ms) ms)
+    ≡ led (latenessOf (atRate rate) at arrival) arrival n (rowsAt (keepWord test word ms) ms)
+led-biased rate at arrival test n word ms fresh =
+    rw (rows-keepWord test word ms)
+    (sym
+    (led-alike test (latenessOf (atRate rate) at arrival) (biasedLate rate at arrival)
+    (λ a b p q.
+    precedes-alike (latenessOf (atRate rate) at arrival) (biasedLate rate at arrival) a b
+    (leZ-biased rate at arrival a b (fresh a p) (fresh b q))
+    (leZ-biased rate at arrival b a (fresh b q) (fresh a p)))
+    arrival
+    n
+    (rowsAt word ms)))
+
+-- a choice of the code, in either mode
+pub choice-in-arrival :
+    (rate : ℕ) (at : Reading) (held : ℕ) (ms : Rows) (fresh presenting : ℕ) →
+    fresh ≡ freshWord rate at held ms → presenting ≡ presentingWord rate at held ms → presenting ≡ 0 →
+    (x : Choice) → x ≡ led (biasedLate rate at true) true (heldIn 64 fresh) (rowsAt fresh ms) →
+    x ≡ choiceAmong rate at held ms
+unfolding choiceAmong
+choice-in-arrival rate at held ms fresh presenting p q none x e =
+    e
+    ∙ rw (p, eq-eqb (presentingWord rate at held ms) 0 (sym q ∙ none))
+    (led-biased rate at true (freshAt (atRate rate) at) (heldIn 64 (freshWord rate at held ms)) held ms (λ row s. s))
+
+pub choice-in-presentation :
+    (rate : ℕ) (at : Reading) (held : ℕ) (ms : Rows) (presenting : ℕ) →
+    presenting ≡ presentingWord rate at held ms → (presenting ≡ 0 → ⊥) →
+    (x : Choice) → x ≡ led (biasedLate rate at false) false (heldIn 64 presenting) (rowsAt presenting ms) →
+    x ≡ choiceAmong rate at held ms
+unfolding choiceAmong
+choice-in-presentation rate at held ms presenting q some x e =
+    e
+    ∙ rw (q, ne-eqb (presentingWord rate at held ms) 0 (λ z. some (q ∙ z)))
+    (led-biased rate at false (λ m. freshAt (atRate rate) at m && presents m)
+    (heldIn 64 (presentingWord rate at held ms))
+    held
+    ms
+    (λ row s. and-eq-true-iff (freshAt (atRate rate) at row) (presents row) .0 s .0))

@@ -1,0 +1,73 @@
+-- Lateness as the code holds it: a number that is not below 0, in two words.
+use Prim.Native.Nat.{ℕ, _+_, _-_, _*_, _/_, _%_, _^_}
+use mathlib.Core.Bool.{Bool, cond, _&&_, _||_}
+use mathlib.Core.List.{[]}
+use mathlib.Core.Path.{_≡_}
+use lib.Dec.{ltb, leb}
+use lib.IntN.{ℤ, pos}
+use lib.ListN.{getD}
+use Rattle.times.specs.Times.{ntpAge, rtpAge}
+use Rattle.register.specs.declared.Record.{Record}
+use Rattle.register.specs.declared.Reading.{Reading}
+use Rattle.register.specs.declared.Choice.{Choice}
+use Rattle.register.specs.Register.{Rows}
+use Rattle.register.specs.Choosing.{delayOf, targetOf}
+use Rattle.register.specs.Leader.{leader}
+use Rattle.table.specs.declared.choose.Late.{Late}
+use Rattle.table.specs.declared.choose.Lead.{Lead}
+use Rattle.table.specs.Members.{isFree, rowsAt, nowhere}
+use Rattle.table.specs.Choose.{led}
+
+-- lateness and 30 s more, which for a fresh row is not below 0: rate × (delay + 30 s − NTP age) + RTP age × 2^32
+unfoldable pub biased : ℕ → ℕ → ℕ → ℕ → ℕ
+biased rate delay ntpAge rtpAge = rate * (delay + 30 * 2 ^ 32 - ntpAge) + rtpAge * 2 ^ 32
+
+abbrev pub biasedOf : ℕ → Reading → Bool → Record → ℕ
+biasedOf rate at arrival row =
+    biased rate (delayOf arrival row)
+    (ntpAge (at .ntp) (row .report .received))
+    (rtpAge (at .rtp) (row .report .rtp))
+
+abbrev pub biasedLate : ℕ → Reading → Bool → Record → ℤ
+biasedLate rate at arrival row = pos (biasedOf rate at arrival row)
+
+-- ---- in two words
+
+-- a number in two words, the lower of 32 bits
+abbrev pub inTwo : ℕ → Late
+inTwo n = record { whole = n / 2 ^ 32; part = n % 2 ^ 32 }
+
+-- the number that two words hold
+abbrev pub joined : Late → ℕ
+joined x = x .whole * 2 ^ 32 + x .part
+
+-- ---- the one that leads
+
+-- the row at a place, as one that leads
+abbrev pub leadOf : ℕ → Reading → Bool → ℕ → Record → Lead
+leadOf rate at arrival place row =
+    record { place = place; late = inTwo (biasedOf rate at arrival row); source = row .source }
+
+-- whether there is one that leads, and it goes before another: `precedes` on what the code holds
+abbrev pub keepsLead : Lead → Lead → Bool
+keepsLead a b =
+    ltb (a .place) 64
+    && (ltb (joined (b .late)) (joined (a .late))
+    || (leb (joined (b .late)) (joined (a .late)) && leb (a .source) (b .source)))
+
+-- which of the two leads, where a word's lowest digit marks the second
+abbrev pub leadNext : ℕ → Lead → Lead → Lead
+leadNext word a b = cond (isFree word || keepsLead a b) a b
+
+-- the choice where the row at a place leads so far, no row at place 64, and rows are to come
+abbrev pub ledFrom : (Record → ℤ) → Bool → ℕ → Rows → ℕ → Rows → Choice
+ledFrom late arrival count members place rows =
+    cond (ltb place 64) (targetOf arrival (leader late (getD members place nowhere) rows) count)
+    (led late arrival count rows)
+
+-- a place leads among the members that a word marks: whatever the count, its choice is that of all of them
+abbrev pub IsLeading : ℕ → Reading → Bool → ℕ → Rows → ℕ → Type 0
+IsLeading rate at arrival word members place =
+    (count : ℕ) →
+    ledFrom (biasedLate rate at arrival) arrival count members place []
+    ≡ led (biasedLate rate at arrival) arrival count (rowsAt word members)

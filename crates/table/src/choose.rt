@@ -1,0 +1,257 @@
+// Choosing: one pass over the places marks the members that count, another finds the one that leads.
+use places::count_held;
+use register::Choice;
+use register::Reading;
+use register::Record;
+use register::Target;
+use times::is_fresh;
+use times::ntp_age;
+use times::presentation;
+use times::presentation_delay;
+use times::rtp_age;
+ghost use mathlib.Core.Bool.{not, cond, _&&_};
+ghost use mathlib.Core.Path.{_≡_};
+ghost use Prim.Native.Nat.{_+_, _-_, _*_, _^_, _≤_, _<_};
+ghost use Rattle.places.specs.Places.{heldIn};
+ghost use Rattle.times.specs.Times.{expanded};
+ghost use Rattle.register.specs.Register.{freshAt};
+ghost use Rattle.register.specs.Choosing.{delayOf, targetOf};
+ghost use Rattle.table.specs.Members.{isFree, digit, rowsAt};
+ghost use Rattle.table.specs.Choose.{atRate, freshWord, presentingWord, led, choiceAmong};
+ghost use Rattle.table.specs.Lateness.{biased, biasedLate, inTwo, leadOf, keepsLead, leadNext, IsLeading};
+
+// 30 s in units of 2^-32 s: as old as a fresh report can be.
+const LONGEST: u64 = 128849018880;
+
+// The places whose member is fresh, and those of them whose member reports presentation.
+pub(crate) struct Marks {
+    pub fresh: u64,
+    pub presenting: u64,
+}
+
+// A lateness of at least 0: whole × 2^32 + part.
+pub(crate) struct Late {
+    pub whole: u64,
+    pub part: u64,
+}
+
+// The member that leads so far: its place, 64 for none, with its lateness and its number.
+pub(crate) struct Lead {
+    pub place: usize,
+    pub late: Late,
+    pub source: u32,
+}
+
+// Whether a word's lowest digit marks a member that is fresh.
+fn is_marked_fresh(word: u64, row: Record, rate: u32, at: Reading) -> bool
+    ensures { λ r. ⌜ r ≡ (not (isFree word) && freshAt (atRate rate) at row) ⌝ }
+{
+    if word % 2 == 0 {
+        return false;
+    }
+    is_fresh(rate, at.ntp, at.rtp, row.report.received, row.report.rtp)
+}
+
+// Whether both are true.
+fn both(a: bool, b: bool) -> bool
+    ensures { λ r. ⌜ r ≡ (a && b) ⌝ }
+{
+    if a {
+        return b;
+    }
+    false
+}
+
+// A word of i digits with one more in front.
+fn with_digit(word: u64, i: usize, yes: bool) -> u64
+    requires { ⌜ (i < 64) × (word < 2 ^ i) ⌝ }
+    ensures { λ r. ⌜ (r ≡ word + digit yes * 2 ^ i) × (r < 2 ^ (i + 1)) ⌝ }
+{
+    if yes {
+        return word + (1u64 << i);
+    }
+    word
+}
+
+// Each place in turn: the word's lowest digit marks it, and the word is halved.
+pub(crate) fn marks_at(held: u64, members: [Record; 64], rate: u32, at: Reading) -> Marks
+    ensures { λ r. ⌜ r .fresh ≡ freshWord rate at held members ⌝ }
+    ensures { λ r. ⌜ r .presenting ≡ presentingWord rate at held members ⌝ }
+{
+    let mut fresh: u64 = 0;
+    let mut presenting: u64 = 0;
+    let mut word = held;
+    let mut i: usize = 0;
+    while i < 64 {
+        let row = members[i];
+        let yes = is_marked_fresh(word, row, rate, at);
+        fresh = with_digit(fresh, i, yes);
+        presenting = with_digit(presenting, i, both(yes, row.report.p));
+        word = word / 2;
+        i += 1;
+    }
+    Marks { fresh, presenting }
+}
+
+// a − b, or 0 where b is the greater.
+fn minus(a: u64, b: u64) -> u64
+    ensures { λ r. ⌜ r ≡ a - b ⌝ }
+{
+    if a < b {
+        return 0;
+    }
+    a - b
+}
+
+// Lateness and 30 s more, from a delay, an NTP age and an RTP age. The product of rate and time can have 81 bits: the
+// halves of the time are multiplied apart.
+fn late_by(rate: u32, delay: u64, age: u64, ticks: u32) -> Late
+    requires { ⌜ delay ≤ 2 ^ 48 ⌝ }
+    ensures { λ r. ⌜ r ≡ inTwo (biased rate delay age ticks) ⌝ }
+{
+    let time = minus(delay + LONGEST, age);
+    let low = (rate as u64) * (time % 4294967296);
+    let high = (rate as u64) * (time / 4294967296);
+    Late {
+        whole: high + (ticks as u64) + low / 4294967296,
+        part: low % 4294967296,
+    }
+}
+
+// A counted member's delay: 0 in arrival mode.
+fn delay_of(row: Record, arrival: bool) -> u64
+    ensures { λ r. ⌜ (r ≡ delayOf arrival row) × (r ≤ 2 ^ 48) ⌝ }
+{
+    if arrival {
+        return 0;
+    }
+    presentation_delay(row.report.received, row.report.presented)
+}
+
+// The member at a place, as one that leads.
+fn lead_of(place: usize, row: Record, rate: u32, at: Reading, arrival: bool) -> Lead
+    ensures { λ r. ⌜ r ≡ leadOf rate at arrival place row ⌝ }
+{
+    let delay = delay_of(row, arrival);
+    let age = ntp_age(at.ntp, row.report.received);
+    let ticks = rtp_age(at.rtp, row.report.rtp);
+    let late = late_by(rate, delay, age, ticks);
+    Lead {
+        place,
+        late,
+        source: row.source,
+    }
+}
+
+// Whether a member leads and goes before another: it is later, or as late and its number as low.
+fn keeps_lead(a: Lead, b: Lead) -> bool
+    requires { ⌜ (a .late .part < 2 ^ 32) × (b .late .part < 2 ^ 32) ⌝ }
+    ensures { λ r. ⌜ r ≡ keepsLead a b ⌝ }
+{
+    if 64 <= a.place {
+        return false;
+    }
+    if b.late.whole < a.late.whole {
+        return true;
+    }
+    if a.late.whole < b.late.whole {
+        return false;
+    }
+    if b.late.part < a.late.part {
+        return true;
+    }
+    if a.late.part < b.late.part {
+        return false;
+    }
+    a.source <= b.source
+}
+
+// Who leads after the member at a place, which a word's lowest digit marks or not.
+fn lead_next(
+    word: u64,
+    lead: Lead,
+    place: usize,
+    row: Record,
+    rate: u32,
+    at: Reading,
+    arrival: bool,
+) -> Lead
+    requires { ⌜ lead .late .part < 2 ^ 32 ⌝ }
+    ensures { λ r. ⌜ r ≡ leadNext word lead (leadOf rate at arrival place row) ⌝ }
+{
+    if word % 2 == 0 {
+        return lead;
+    }
+    let next = lead_of(place, row, rate, at, arrival);
+    if keeps_lead(lead, next) {
+        return lead;
+    }
+    next
+}
+
+// The place of the member that leads among those that a word marks, or 64 where it marks none.
+fn leading_place(word: u64, members: [Record; 64], rate: u32, at: Reading, arrival: bool) -> usize
+    ensures { λ r. ⌜ IsLeading rate at arrival word members r ⌝ }
+{
+    let mut lead = Lead {
+        place: 64,
+        late: Late { whole: 0, part: 0 },
+        source: 0,
+    };
+    let mut rest = word;
+    let mut i: usize = 0;
+    while i < 64 {
+        lead = lead_next(rest, lead, i, members[i], rate, at, arrival);
+        rest = rest / 2;
+        i += 1;
+    }
+    lead.place
+}
+
+// The presented time of a target: 0 in arrival mode.
+fn presented_of(row: Record, arrival: bool) -> u64
+    ensures { λ r. ⌜ r ≡ cond arrival 0 (expanded (row .report .received) (row .report .presented)) ⌝ }
+{
+    if arrival {
+        return 0;
+    }
+    presentation(row.report.received, row.report.presented)
+}
+
+// A member as the target, with how many were counted.
+fn target_of(row: Record, arrival: bool, counted: u32) -> Choice
+    ensures { λ r. ⌜ r ≡ targetOf arrival row counted ⌝ }
+{
+    let presented = presented_of(row, arrival);
+    Choice::Target(Target {
+        source: row.source,
+        group: row.report.group,
+        media: row.report.media,
+        received: row.report.received,
+        rtp: row.report.rtp,
+        presented,
+        counted,
+    })
+}
+
+// The one that leads among the members that a word marks, all of them counted, or 20 where it marks none.
+fn choice_in(word: u64, members: [Record; 64], rate: u32, at: Reading, arrival: bool) -> Choice
+    ensures { λ r. ⌜ r ≡ led (biasedLate rate at arrival) arrival (heldIn 64 word) (rowsAt word members) ⌝ }
+{
+    let place = leading_place(word, members, rate, at, arrival);
+    if 64 <= place {
+        return Choice::Refused(20);
+    }
+    target_of(members[place], arrival, count_held(word))
+}
+
+// The members that report presentation count; where none does, all that are fresh, in arrival mode.
+pub(crate) fn choice_at(held: u64, members: [Record; 64], rate: u32, at: Reading) -> Choice
+    ensures { λ r. ⌜ r ≡ choiceAmong rate at held members ⌝ }
+{
+    let marks = marks_at(held, members, rate, at);
+    if marks.presenting == 0 {
+        return choice_in(marks.fresh, members, rate, at, true);
+    }
+    choice_in(marks.presenting, members, rate, at, false)
+}
