@@ -14,8 +14,8 @@ use Rattle.times.specs.Times.{ntpAge, rtpAge, isFar, isAged}
 use Rattle.register.specs.declared.Record.{Record}
 use Rattle.register.specs.declared.Reading.{Reading}
 use Rattle.register.specs.declared.Choice.{Choice}
-use Rattle.register.specs.Register.{Rows, keep, freshAt}
-use Rattle.register.specs.Choosing.{lateness, latenessOf, delayOf, precedes, presents, targetOf}
+use Rattle.register.specs.Register.{Rows, keep, presents, freshAt}
+use Rattle.register.specs.Choosing.{lateness, latenessOf, delayOf, precedes, targetOf}
 use Rattle.register.specs.Leader.{leader}
 use Rattle.register.proofs.Order.{ltZ-not-leZ, leZ-subℕ, lateness-subℕ}
 use Rattle.register.proofs.Rows.{keep-yes, keep-no}

@@ -86,7 +86,7 @@ pub(crate) fn marks_at(held: u64, members: [Record; 64], rate: u32, at: Reading)
         let row = members[i];
         let yes = is_marked_fresh(word, row, rate, at);
         fresh = with_digit(fresh, i, yes);
-        presenting = with_digit(presenting, i, both(yes, row.report.p));
+        presenting = with_digit(presenting, i, both(yes, row.report.p != 0));
         word = word / 2;
         i += 1;
     }

@@ -5,8 +5,7 @@ use mathlib.Core.Path.{ap, _∙_}
 use lib.ListN.{length, getD}
 use native.Mathlib.Omega.{arith}
 use borrow.Author.Needs.{needs}
-use Rattle.register.specs.Register.{freshAt}
-use Rattle.register.specs.Choosing.{presents}
+use Rattle.register.specs.Register.{presents, freshAt}
 use Rattle.table.specs.Members.{isFree, nowhere}
 use Rattle.table.specs.Choose.{atRate}
 use Rattle.table.proofs.Words.{KeptSoFar, kept-start, kept-step, kept-end}
@@ -51,18 +50,18 @@ loop-less c = search needs
 
 loop-again : tie.Need-loop-again Inv-loop μ-loop
 loop-again c =
-    let start = c .before .before .before .before .before .before .before in
-    let loop = c .before .before .before .before .before .before .loop in
+    let start = c .before .before .before .before .before .before .before .before in
+    let loop = c .before .before .before .before .before .before .before .loop in
     let within : loop .i < length (start .args .t2) = omega (arith, start .good) in
     let row = getD (start .args .t2) (loop .i) nowhere in
-    let marked : _ = c .before .before .before .is-marked-fresh .ensures in
+    let marked : _ = c .before .before .before .before .is-marked-fresh .ensures in
     let presenting : _ =
     c .before .both .ensures
     ∙ ap (λ (t : Bool). t && presents row) marked
     ∙ and-assoc (not (isFree (loop .word))) (freshAt (atRate (start .args .rate)) (start .args .at) row)
     (presents row) in (
       omega arith,
-      kept-step _ within (loop .inv .1) marked (c .before .before .with-digit .ensures),
+      kept-step _ within (loop .inv .1) marked (c .before .before .before .with-digit .ensures),
       kept-step _ within (loop .inv .2) presenting (c .with-digit2 .ensures),
     )
 
