@@ -9,6 +9,7 @@ ghost use mathlib.Core.Path.{_≡_};
 ghost use mathlib.Core.Bool.{not, _&&_, _||_};
 ghost use lib.Dec.{ltb, eqb};
 ghost use Rattle.places.specs.Places.{lowestFree};
+ghost use Rattle.times.specs.Times.{isBadlyPresented};
 ghost use Rattle.register.specs.Register.{reportChecks};
 
 // The refusals of the member table, by document 01's numbers.
@@ -54,6 +55,16 @@ pub(crate) fn is_without_room(place: usize, held: u64) -> bool
     lowest_free(held) == 64
 }
 
+// Check 17, of any report.
+fn presents_badly(p: bool, received: u64, presented: u32) -> bool
+    ensures { λ r. ⌜ r ≡ (p && isBadlyPresented received presented) ⌝ }
+{
+    if !p {
+        return false;
+    }
+    is_badly_presented(received, presented)
+}
+
 // The first check that applies to a report, or 0. `elsewhere` says whether its number is held by another origin,
 // `no_room` whether it is new and all places are held.
 pub(crate) fn report_number(
@@ -83,7 +94,7 @@ pub(crate) fn report_number(
     if is_aged(rate, at.rtp, report.rtp) {
         return RTP_AGED;
     }
-    if report.p && is_badly_presented(report.received, report.presented) {
+    if presents_badly(report.p, report.received, report.presented) {
         return BADLY_PRESENTED;
     }
     if no_room {

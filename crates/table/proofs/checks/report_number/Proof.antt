@@ -1,55 +1,92 @@
+-- Each return has the tests that led there, in the order of the checks.
+use mathlib.Core.Bool.{Bool, true, false}
+use mathlib.Core.Path.{_≡_, refl, sym, _∙_}
 use borrow.Author.Needs.{needs}
+use borrow.Author.Tests.{eq-eqb, ne-eqb}
+use Rattle.register.specs.Register.{reportChecks}
 use Rattle.table.proofs.checks.report_number.Statement.{statement}
 use Rattle.table.proofs.checks.report_number.Tie as tie
-use Rattle.table.proofs.checks.report_number.Reads as reads
-use Rattle.table.proofs.checks.report_number.Lts as lts
-use Rattle.times.proofs.is_aged.Reads as is-aged-reads
-use Rattle.times.proofs.is_badly_presented.Reads as is-badly-presented-reads
-use Rattle.times.proofs.is_far.Reads as is-far-reads
 
--- src/checks.rt:63:9
 returns : tie.Need-returns
-returns c = search needs
+unfolding reportChecks
+returns c = rw (ne-eqb _ _ (c .if1 .taken)) refl
 
--- src/checks.rt:66:9
 returns-2 : tie.Need-returns-2
-returns-2 c = search needs
+unfolding reportChecks
+returns-2 c = rw (eq-eqb _ _ (c .before .before .if1 .left), ne-eqb _ _ (c .if2 .taken)) refl
 
--- src/checks.rt:69:9
 returns-3 : tie.Need-returns-3
-returns-3 c = search needs
+unfolding reportChecks
+returns-3 c =
+    rw (eq-eqb _ _ (c .before .before .before .if1 .left), eq-eqb _ _ (c .before .if2 .left), c .if3 .taken) refl
 
--- src/checks.rt:71:8
 is-far-requires : tie.Need-is-far-requires
 is-far-requires c κs = search needs
 
--- src/checks.rt:72:9
 returns-4 : tie.Need-returns-4
-returns-4 c = search needs
+unfolding reportChecks
+returns-4 c =
+    rw (
+      eq-eqb _ _ (c .before .before .before .before .before .if1 .left),
+      eq-eqb _ _ (c .before .before .before .if2 .left),
+      c .before .before .if3 .left,
+      sym (c .before .is-far .ensures) ∙ c .if4 .taken,
+    ) refl
 
--- src/checks.rt:74:8
 is-aged-requires : tie.Need-is-aged-requires
 is-aged-requires c κs = search needs
 
--- src/checks.rt:75:9
 returns-5 : tie.Need-returns-5
-returns-5 c = search needs
+unfolding reportChecks
+returns-5 c =
+    rw (
+      eq-eqb _ _ (c .before .before .before .before .before .before .before .if1 .left),
+      eq-eqb _ _ (c .before .before .before .before .before .if2 .left),
+      c .before .before .before .before .if3 .left,
+      sym (c .before .before .before .is-far .ensures) ∙ c .before .before .if4 .left,
+      sym (c .before .is-aged .ensures) ∙ c .if5 .taken,
+    ) refl
 
--- src/checks.rt:77:20
-is-badly-presented-requires : tie.Need-is-badly-presented-requires
-is-badly-presented-requires c κs = search needs
+presents-badly-requires : tie.Need-presents-badly-requires
+presents-badly-requires c κs = search needs
 
--- src/checks.rt:78:9
 returns-6 : tie.Need-returns-6
-returns-6 c = search needs
+unfolding reportChecks
+returns-6 c =
+    rw (
+      eq-eqb _ _ (c .before .before .before .before .before .before .before .before .before .if1 .left),
+      eq-eqb _ _ (c .before .before .before .before .before .before .before .if2 .left),
+      c .before .before .before .before .before .before .if3 .left,
+      sym (c .before .before .before .before .before .is-far .ensures) ∙ c .before .before .before .before .if4 .left,
+      sym (c .before .before .before .is-aged .ensures) ∙ c .before .before .if5 .left,
+      sym (c .before .presents-badly .ensures) ∙ c .if6 .taken,
+    ) refl
 
--- src/checks.rt:81:9
 returns-7 : tie.Need-returns-7
-returns-7 c = search needs
+unfolding reportChecks
+returns-7 c =
+    rw (
+      eq-eqb _ _ (c .before .before .before .before .before .before .before .before .before .before .if1 .left),
+      eq-eqb _ _ (c .before .before .before .before .before .before .before .before .if2 .left),
+      c .before .before .before .before .before .before .before .if3 .left,
+      sym (c .before .before .before .before .before .before .is-far .ensures) ∙ c .before .before .before .before .before .if4 .left,
+      sym (c .before .before .before .before .is-aged .ensures) ∙ c .before .before .before .if5 .left,
+      sym (c .before .before .presents-badly .ensures) ∙ c .before .if6 .left,
+      c .if7 .taken,
+    ) refl
 
--- src/checks.rt:50:1
 returns-8 : tie.Need-returns-8
-returns-8 c = search needs
+unfolding reportChecks
+returns-8 c =
+    rw (
+      eq-eqb _ _ (c .before .before .before .before .before .before .before .before .before .before .if1 .left),
+      eq-eqb _ _ (c .before .before .before .before .before .before .before .before .if2 .left),
+      c .before .before .before .before .before .before .before .if3 .left,
+      sym (c .before .before .before .before .before .before .is-far .ensures) ∙ c .before .before .before .before .before .if4 .left,
+      sym (c .before .before .before .before .is-aged .ensures) ∙ c .before .before .before .if5 .left,
+      sym (c .before .before .presents-badly .ensures) ∙ c .before .if6 .left,
+      c .if7 .left,
+    ) refl
 
 pub report-number-spec : {M : Type 1} → statement M
 report-number-spec =
@@ -62,7 +99,7 @@ report-number-spec =
     returns-4
     is-aged-requires
     returns-5
-    is-badly-presented-requires
+    presents-badly-requires
     returns-6
     returns-7
     returns-8)

@@ -1,29 +1,25 @@
+-- The place first, then the origin of the record there.
+use mathlib.Core.Bool.{not}
+use mathlib.Core.Path.{refl, ap}
 use borrow.Author.Needs.{needs}
+use borrow.Author.Tests.{lt-ltb, le-ltb}
 use Rattle.table.proofs.search.is_elsewhere.Statement.{statement}
 use Rattle.table.proofs.search.is_elsewhere.Tie as tie
-use Rattle.table.proofs.search.is_elsewhere.Reads as reads
-use Rattle.table.proofs.search.is_elsewhere.Lts as lts
-use Rattle.origin.proofs.same_origin.Reads as same-origin-reads
 
--- src/search.rt:61:9
 returns : tie.Need-returns
-returns c = search needs
+returns c = rw (le-ltb _ 64 (c .if1 .taken)) refl
 
--- src/search.rt:63:17
 mul-there : tie.Need-mul-there
 mul-there c = search needs
 
--- src/search.rt:63:17
 array-copy-out-there : tie.Need-array-copy-out-there
 array-copy-out-there c = search needs
 
--- src/search.rt:64:6
 same-origin-requires : tie.Need-same-origin-requires
 same-origin-requires c κs = search needs
 
--- src/search.rt:57:1
 returns-2 : tie.Need-returns-2
-returns-2 c = search needs
+returns-2 c = rw (lt-ltb _ 64 (c .before .before .if1 .left)) (ap not (c .same-origin .ensures))
 
 pub is-elsewhere-spec : {M : Type 1} → statement M
 is-elsewhere-spec =
