@@ -3,15 +3,25 @@ use Prim.Native.Nat.{ℕ, zero, suc, _+_, _-_, _*_, _/_, _%_, _^_, _≤_, _<_}
 use mathlib.Core.Bool.{Bool, true, false, not, cond, _&&_}
 use mathlib.Core.List.{List, [], _∷_}
 use mathlib.Core.Path.{_≡_, refl, sym, ap, _∙_}
-use lib.Dec.{eqb}
+use lib.Dec.{eqb, lit<}
 use lib.ListN.{length, getD, drop, drop-of-length-le}
 use lib.Seq.{drop-cons}
-use native.Mathlib.Nat.{pow-zero, pow-suc}
+use native.Mathlib.Nat.{pow-zero, pow-suc, pow-succ', pow-le-pow-right, div-one, div-div-eq-div-mul}
+use native.Mathlib.Numerals.{one-add}
 use native.Mathlib.Omega.{arith}
-use borrow.Author.Tests.{eqb-true, eqb-false}
+use borrow.Author.Tests.{eqb-true, eqb-false, not-true, not-false}
 use Rattle.places.specs.Places.{isHeld}
+use Rattle.register.specs.declared.Record.{Record}
 use Rattle.register.specs.Register.{Rows, hasNumber}
 use Rattle.table.specs.Members.{nowhere, isFree, placeOf}
+
+-- no test is both false and true
+clash : {A : Type 0} → false ≡ true → A
+clash e = let z : _≡_ {A = ℕ} 0 1 = cc in absurd (omega arith)
+
+pub both-true : (s t : Bool) → (s && t) ≡ true → (s ≡ true) × (t ≡ true)
+both-true true t e = (refl, e)
+both-true false t e = clash e
 
 -- ---- the search
 
@@ -34,3 +44,83 @@ place-beyond source word ms i h e = rw (drop-cons ms i nowhere h, e) refl
 pub place-end : (source word : ℕ) → (ms : Rows) → (i : ℕ) → length ms ≤ i → placeOf source word (drop i ms) ≡ 0
 unfolding placeOf
 place-end source word ms i h = rw (drop-of-length-le ms h) refl
+
+within-step :
+    (source word : ℕ) → (m : Record) → (ms : Rows) → (t : Bool) → isHeldBy word (m .source) source ≡ t →
+    placeOf source (word / 2) ms ≤ length ms →
+    placeOf source word (m ∷ ms) ≤ length (m ∷ ms)
+unfolding placeOf
+within-step source word m ms true e rest = rw e (omega arith)
+within-step source word m ms false e rest = rw e (omega arith)
+
+-- at most behind the last place
+pub place-within : (source word : ℕ) → (ms : Rows) → placeOf source word ms ≤ length ms
+unfolding placeOf
+place-within source word [] = omega arith
+place-within source word (m ∷ ms) =
+    within-step source word m ms (isHeldBy word (m .source) source) refl (place-within source (word / 2) ms)
+
+held-step :
+    (source word : ℕ) → (m : Record) → (ms : Rows) → (t : Bool) → isHeldBy word (m .source) source ≡ t →
+    (placeOf source (word / 2) ms < length ms → isHeld (placeOf source (word / 2) ms) (word / 2) ≡ true) →
+    placeOf source word (m ∷ ms) < length (m ∷ ms) →
+    isHeld (placeOf source word (m ∷ ms)) word ≡ true
+unfolding placeOf isHeld
+held-step source word m ms true e rest h = rw e (both-true (not (isFree word)) (eqb (m .source) source) e .0)
+held-step source word m ms false e rest h =
+    let beyond : placeOf source word (m ∷ ms) ≡ suc (placeOf source (word / 2) ms) =
+    rw e (one-add (placeOf source (word / 2) ms)) in
+    rw beyond (rest (omega (arith, beyond)))
+
+-- before that, the place is held
+pub place-is-held :
+    (source word : ℕ) → (ms : Rows) → placeOf source word ms < length ms → isHeld (placeOf source word ms) word ≡ true
+unfolding placeOf
+place-is-held source word [] h = absurd (omega arith)
+place-is-held source word (m ∷ ms) h =
+    held-step source word m ms (isHeldBy word (m .source) source) refl (place-is-held source (word / 2) ms) h
+
+-- what the search answers of a place that it found
+pub place-found :
+    (source word : ℕ) → (ms : Rows) → (place n : ℕ) → length ms ≡ n → place ≡ placeOf source word ms →
+    (place ≡ placeOf source word ms) × (place ≤ n) × (place < n → isHeld place word ≡ true)
+place-found source word ms place n long e = (
+  e,
+  omega (arith, place-within source word ms),
+  λ h. rw e (place-is-held source word ms (omega arith)),
+)
+
+-- ---- a digit of the word
+
+-- a word that marks one of 64 places is the power itself
+pub digit-fits : (place : ℕ) → place < 64 → 1 * 2 ^ place % 2 ^ 64 ≡ 2 ^ place
+digit-fits place h =
+    let small : place ≤ 63 = omega arith in
+    let below : 2 ^ place ≤ 2 ^ 63 = pow-le-pow-right {n = 2} (lit< tt) {i = place} {j = 63} small in
+    omega arith
+
+-- a place is held where the word, shifted there, ends in a one
+pub held-digit : (place word : ℕ) → isHeld place word ≡ not (eqb (word / 2 ^ place % 2) 0)
+unfolding isHeld
+held-digit zero word = rw (pow-zero 2, div-one word) refl
+held-digit (suc place) word =
+    held-digit place (word / 2)
+    ∙ ap (λ (n : ℕ). not (eqb (n % 2) 0))
+    (div-div-eq-div-mul word 2 (2 ^ place) ∙ ap (λ (n : ℕ). word / n) (sym (pow-succ' 2 place)))
+
+-- the digit of a place that is held can be taken away
+pub held-at-most : (place word : ℕ) → isHeld place word ≡ true → 2 ^ place ≤ word
+unfolding isHeld
+held-at-most zero word e = omega (arith, pow-zero 2, eqb-false (word % 2) 0 (not-true (eqb (word % 2) 0) e))
+held-at-most (suc place) word e = omega (arith, pow-suc 2 place, held-at-most place (word / 2) e)
+
+-- the digit of a free place can be added
+pub free-below : (k place word : ℕ) → word < 2 ^ k → place < k → isHeld place word ≡ false → word + 2 ^ place < 2 ^ k
+unfolding isHeld
+free-below zero place word h q e = absurd (omega arith)
+free-below (suc k) zero word h q e =
+    omega (arith, pow-zero 2, pow-suc 2 k, eqb-true (word % 2) 0 (not-false (eqb (word % 2) 0) e))
+free-below (suc k) (suc place) word h q e =
+    let half : word / 2 < 2 ^ k = omega (arith, pow-suc 2 k) in
+    let below : word / 2 + 2 ^ place < 2 ^ k = free-below k place (word / 2) half (omega arith) e in
+    omega (arith, pow-suc 2 k, pow-suc 2 place)

@@ -2,6 +2,7 @@
 mod checks;
 mod empty;
 mod search;
+mod word;
 
 use checks::BAD_OPENING;
 use checks::NO_MEMBER;
@@ -24,6 +25,8 @@ use search::is_elsewhere;
 use search::member_of;
 use search::place_of;
 use search::stored;
+use word::digit_at;
+use word::is_held;
 ghost use mathlib.Core.Path.{_≡_};
 ghost use mathlib.Core.Bool.{false};
 ghost use Rattle.register.specs.Register.{Call};
@@ -122,7 +125,7 @@ impl Table {
             group: self.group,
             media: self.media,
             rate: self.rate,
-            held: held + (1u64 << free),
+            held: held + digit_at(free),
             members: stored(members, free, x),
         }
     }
@@ -173,7 +176,7 @@ impl Table {
             group: self.group,
             media: self.media,
             rate: self.rate,
-            held: held - (1u64 << place),
+            held: held - digit_at(place),
             members,
         };
         Answered {
@@ -195,10 +198,7 @@ impl Table {
     {
         let held = self.held;
         let members = self.members;
-        if 64 <= place {
-            return vacant_seat();
-        }
-        if (held >> place) % 2 == 0 {
+        if !is_held(held, place) {
             return vacant_seat();
         }
         Seat {

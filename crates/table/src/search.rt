@@ -3,11 +3,12 @@ use origin::Origin;
 use origin::same_origin;
 use register::Record;
 ghost use mathlib.Core.Path.{_≡_};
-ghost use mathlib.Core.Bool.{not, _&&_};
+ghost use mathlib.Core.Bool.{true, not, _&&_};
 ghost use Prim.Native.Nat.{_≤_, _<_};
 ghost use lib.Dec.{ltb, eqb};
 ghost use lib.ListN.{getD, set};
 ghost use Rattle.origin.specs.Origins.{sameOrigin};
+ghost use Rattle.places.specs.Places.{isHeld};
 ghost use Rattle.table.specs.Members.{nowhere, isFree, placeOf};
 
 // Whether the word's first place is held, by a member of this number.
@@ -20,9 +21,9 @@ fn is_held_by(word: u64, number: u32, source: u32) -> bool
     number == source
 }
 
-// The place of the member with a number, or 64 where none has it.
+// The place of the member with a number, which is held, or 64 where none has it.
 pub(crate) fn place_of(held: u64, members: [Record; 64], source: u32) -> usize
-    ensures { λ r. ⌜ (r ≡ placeOf source held members) × (r ≤ 64) ⌝ }
+    ensures { λ r. ⌜ (r ≡ placeOf source held members) × (r ≤ 64) × (r < 64 → isHeld r held ≡ true) ⌝ }
 {
     let mut word = held;
     let mut i: usize = 0;

@@ -6,7 +6,7 @@ use native.Mathlib.Numerals.{add-one}
 use native.Mathlib.Omega.{arith}
 use borrow.Author.Needs.{needs}
 use Rattle.table.specs.Members.{placeOf}
-use Rattle.table.proofs.Places.{place-here, place-beyond, place-end}
+use Rattle.table.proofs.Places.{place-here, place-beyond, place-end, place-found}
 use Rattle.table.proofs.search.place_of.Statement.{statement}
 use Rattle.table.proofs.search.place_of.Tie as tie
 
@@ -36,7 +36,8 @@ returns c =
     let e : _ =
     place-here (start .args .source) (loop .word) (start .args .t2) (loop .i) (omega (arith, start .good))
     (sym (c .before .is-held-by .ensures) ∙ c .if1 .taken) in
-    (omega (arith, e, loop .inv .1), omega arith)
+    place-found (start .args .source) (start .args .held) (start .args .t2) (loop .i) 64 (omega (arith, start .good))
+    (omega (arith, e, loop .inv .1))
 
 add-i : tie.Need-add-i Inv-loop μ-loop
 add-i c = omega arith
@@ -60,7 +61,8 @@ returns-2 c =
     let start = c .before .before in
     let loop = c .before .loop in
     let e : _ = place-end (start .args .source) (loop .word) (start .args .t2) (loop .i) (omega (arith, start .good)) in
-    (omega (arith, e, loop .inv .1), omega arith)
+    place-found (start .args .source) (start .args .held) (start .args .t2) 64 64 (omega (arith, start .good))
+    (omega (arith, e, loop .inv .1))
 
 pub place-of-spec : {M : Type 1} → statement M
 place-of-spec =
