@@ -19,7 +19,7 @@ use Rattle.table.proofs.Places.{free-below}
 use Rattle.table.specs.declared.Table.{Table}
 use Rattle.table.specs.declared.Seat.{Seat}
 use Rattle.table.specs.declared.Answered.{Answered}
-use Rattle.table.specs.Members.{emptyTable, vacant, nowhere, seatAt, placeIn}
+use Rattle.table.specs.Members.{openingOf, emptyTable, vacant, nowhere, seatAt, placeIn}
 use Rattle.table.specs.Calls.{
   opened,
   isMember,
@@ -125,7 +125,7 @@ cond-positive true n m h k = h
 cond-positive false n m h k = k
 
 -- accepted, there was room for it
-pub accepted-room :
+accepted-room :
     (o : Opening) → (x : Record) → (at : Reading) → (elsewhere noRoom : Bool) →
     reportChecks o x at elsewhere noRoom ≡ 0 →
     noRoom ≡ false
@@ -140,6 +140,26 @@ accepted-room o x at elsewhere true e =
     (cond-positive (x .report .p && isBadlyPresented (x .report .received) (x .report .presented)) 17 18 (lit< tt)
     (lit< tt))))) in
     absurd (omega arith)
+
+module _ (t : Table) (x : Record) (at : Reading) where
+  -- the number, from what the search says of the report's source
+  pub report-number-there :
+      (place : ℕ) → (elsewhere noRoom : Bool) → (n : ℕ) → place ≡ placeIn t (x .source) →
+      elsewhere ≡ (ltb place 64 && not (sameOrigin (getD (t .members) place nowhere .origin) (x .origin))) →
+      noRoom ≡ (not (ltb place 64) && eqb (lowestFree 64 (t .held)) 64) →
+      n ≡ reportChecks (openingOf t) x at elsewhere noRoom →
+      n ≡ numberOf t (Call.report x at)
+  unfolding numberOf
+  report-number-there place elsewhere noRoom n e f g h =
+      let there : elsewhere ≡ isElsewhere t (x .source) (x .origin) =
+      elsewhere-there t (x .source) place e (x .origin) elsewhere f in
+      let room : noRoom ≡ isWithoutRoom t (x .source) = without-room-there t (x .source) place e noRoom g in
+      rw (there, room) at h
+
+  pub report-room : numberOf t (Call.report x at) ≡ 0 → isWithoutRoom t (x .source) ≡ false
+  unfolding numberOf
+  report-room e =
+      accepted-room (openingOf t) x at (isElsewhere t (x .source) (x .origin)) (isWithoutRoom t (x .source)) e
 
 -- a new member that finds room has a place, whose digit can be added
 module _ (t : Table) (source place : ℕ) (e : place ≡ placeIn t source) (room : isWithoutRoom t source ≡ false) where

@@ -1,16 +1,9 @@
 -- The number is the definition's, for what is asked of the member is. A number above 0 leaves the table, 0 files the report,
 -- which then found room.
-use mathlib.Core.Path.{_≡_, sym, _∙_}
+use mathlib.Core.Path.{sym, _∙_}
 use borrow.Author.Needs.{needs}
-use Rattle.register.specs.Register.{reportChecks}
-use Rattle.table.specs.Calls.{numberOf}
-use Rattle.table.proofs.Cases.{
-  call-refused,
-  call-accepted,
-  elsewhere-there,
-  without-room-there,
-  accepted-room,
-}
+use Rattle.register.specs.Register.{Call}
+use Rattle.table.proofs.Cases.{call-refused, call-accepted, report-number-there, report-room}
 use Rattle.table.proofs.Table.report.Statement.{statement}
 use Rattle.table.proofs.Table.report.Tie as tie
 
@@ -27,14 +20,37 @@ report-number-requires : tie.Need-report-number-requires
 report-number-requires c κs = search needs
 
 returns : tie.Need-returns
-unfolding numberOf
-returns c = ?
+returns c =
+    let args = c .before .before .before .before .before .before .before .args in
+    let e : _ =
+    report-number-there (args .self) (args .x) (args .at) _ _ _ _ (c .before .before .before .before .place-of .ensures .0)
+    (c .before .before .before .is-elsewhere .ensures)
+    (c .before .before .is-without-room .ensures)
+    (c .before .report-number .ensures) in
+    call-refused (args .self) _ _ e (c .if1 .taken)
 
 file-requires : tie.Need-file-requires
-file-requires c κs = ?
+file-requires c κs =
+    let args = c .before .before .before .before .before .before .before .args in
+    let e : _ =
+    report-number-there (args .self) (args .x) (args .at) _ _ _ _ (c .before .before .before .before .place-of .ensures .0)
+    (c .before .before .before .is-elsewhere .ensures)
+    (c .before .before .is-without-room .ensures)
+    (c .before .report-number .ensures) in
+    (
+      c .before .before .before .before .place-of .ensures .0,
+      report-room (args .self) (args .x) (args .at) (sym e ∙ c .if1 .left),
+    )
 
 returns-2 : tie.Need-returns-2
-returns-2 c = ?
+returns-2 c =
+    let args = c .before .before .before .before .before .before .before .before .args in
+    let e : _ =
+    report-number-there (args .self) (args .x) (args .at) _ _ _ _ (c .before .before .before .before .before .place-of .ensures .0)
+    (c .before .before .before .before .is-elsewhere .ensures)
+    (c .before .before .before .is-without-room .ensures)
+    (c .before .before .report-number .ensures) in
+    call-accepted (args .self) _ (Call.report (args .x) (args .at)) (sym e ∙ c .before .if1 .left) (c .file .ensures)
 
 pub report-spec : {M : Type 1} → statement M
 report-spec =
