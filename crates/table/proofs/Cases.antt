@@ -1,12 +1,17 @@
 -- What each return of a call answers, from the tests that led there.
 use Prim.Native.Nat.{ℕ, _+_, _-_, _^_, _≤_, _<_}
 use mathlib.Core.Bool.{Bool, true, false, not, cond, _&&_}
-use mathlib.Core.Path.{_≡_, refl, sym, ap, _∙_}
-use mathlib.Core.List.{List}
+use mathlib.Core.Path.{_≡_, refl, _∙_}
+use mathlib.Core.List.{[], _∷_}
+use mathlib.Core.Logic.{⊎-elim}
 use lib.Dec.{ltb, eqb, lit<}
 use lib.ListN.{getD, set}
 use native.Mathlib.Omega.{arith}
 use borrow.Author.Tests.{eqb-false, ne-eqb, lt-ltb, le-ltb}
+use denote.Enum.Declared.{tagOf}
+use types.Run.{OneOf}
+use Rattle.idms.proofs.Item.{the-type}
+use Rattle.idms.specs.declared.Item.{Item}
 use Rattle.places.proofs.Laws.{lowest-free-within, lowest-free-is-free}
 use Rattle.times.specs.Times.{isFar, isAged, isBadlyPresented}
 use Rattle.origin.specs.declared.Origin.{Origin}
@@ -19,6 +24,8 @@ use Rattle.table.proofs.Places.{free-below}
 use Rattle.table.specs.declared.Table.{Table}
 use Rattle.table.specs.declared.Seat.{Seat}
 use Rattle.table.specs.declared.Answered.{Answered}
+use Rattle.table.specs.declared.Outcome.{Outcome}
+use Rattle.table.specs.declared.Taken.{Taken}
 use Rattle.table.specs.Members.{openingOf, emptyTable, vacant, nowhere, seatAt, placeIn}
 use Rattle.table.specs.Calls.{
   opened,
@@ -31,11 +38,13 @@ use Rattle.table.specs.Calls.{
   acceptedBy,
   answered,
 }
+use Rattle.table.specs.Intake.{called, itemTaken}
 
 -- ---- opening
 
 pub opened-refused :
-    (o : Opening) → (t : Table) → isRefusedOpening o ≡ true → t ≡ emptyTable (record { group = 0; media = 0; rate = 0 }) →
+    (o : Opening) → (t : Table) → isRefusedOpening o ≡ true →
+    t ≡ emptyTable (record { group = 0; media = 0; rate = 0 }) →
     record { number = 12; table = t } ≡ opened o
 unfolding opened
 opened-refused o t e h = rw (e, h) refl
@@ -188,3 +197,21 @@ module _ (t : Table) (x : Record) (place : ℕ) (e : place ≡ placeIn t (x .sou
       ≡ filed t x
   unfolding filed
   filed-anew free digit h f g k = rw (le-ltb (placeIn t (x .source)) 64 (omega arith), k, g, f) refl
+
+-- ---- an item
+
+-- no report by its tag, and no farewell: settings
+pub item-passed :
+    (t : Table) → (i : Item) → (origin : Origin) → (at : Reading) → OneOf (1 ∷ 2 ∷ []) (tagOf the-type i) →
+    OneOf (0 ∷ 1 ∷ []) (tagOf the-type i) →
+    record { outcome = Outcome.Passed; table = t } ≡ itemTaken t i origin at
+item-passed t (Item.Report r) origin at h k = absurd (⊎-elim (λ z. omega arith) (λ z. omega arith) h)
+item-passed t (Item.Settings s) origin at h k = refl
+item-passed t (Item.Farewell source) origin at h k = absurd (⊎-elim (λ z. omega arith) (λ z. omega arith) k)
+
+-- a report or a farewell by its call
+pub item-called :
+    (t : Table) → (call : Call) → (a : Answered) → (u : Taken) → a ≡ answered t call →
+    u ≡ record { outcome = Outcome.Number (a .number); table = a .table } →
+    u ≡ called t call
+item-called t call a u e f = rw e at f

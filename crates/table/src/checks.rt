@@ -6,11 +6,11 @@ use times::is_aged;
 use times::is_badly_presented;
 use times::is_far;
 ghost use mathlib.Core.Path.{_≡_};
-ghost use mathlib.Core.Bool.{not, _&&_, _||_};
+ghost use mathlib.Core.Bool.{not, _&&_};
 ghost use lib.Dec.{ltb, eqb};
 ghost use Rattle.places.specs.Places.{lowestFree};
 ghost use Rattle.times.specs.Times.{isBadlyPresented};
-ghost use Rattle.register.specs.Register.{reportChecks};
+ghost use Rattle.register.specs.Register.{isRefusedOpening, reportChecks};
 
 // The refusals of the member table, by document 01's numbers.
 pub(crate) const BAD_OPENING: u64 = 12;
@@ -29,9 +29,9 @@ const NO_ROOM: u64 = 18;
 
 pub(crate) const NO_MEMBER: u64 = 19;
 
-// Whether 12 is given.
+// Whether 12 is given, whatever the media source.
 pub(crate) fn is_refused_opening(group: u32, rate: u32) -> bool
-    ensures { λ r. ⌜ r ≡ (eqb group 0 || eqb group 4294967295 || eqb rate 0 || ltb 192000 rate) ⌝ }
+    ensures { λ r. ⌜ r ≡ isRefusedOpening (record { group = group; media = 0; rate = rate }) ⌝ }
 {
     if group == 0 {
         return true;

@@ -179,10 +179,7 @@ impl Table {
             held: held - digit_at(place),
             members,
         };
-        Answered {
-            number: 0,
-            table,
-        }
+        Answered { number: 0, table }
     }
 
     // How many members there are.

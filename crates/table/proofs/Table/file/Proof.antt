@@ -1,4 +1,4 @@
--- At its number's place by `filed-again`, at the lowest free one by `filed-anew`. That one is below 64, since the report
+-- At its number's place by `filed-again`, at the lowest free one by `filed-anew`: that one is below 64, since the report
 -- found room.
 use Prim.Native.Nat.{ℕ, _^_}
 use mathlib.Core.Path.{ap, _∙_}

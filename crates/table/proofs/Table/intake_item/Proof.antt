@@ -1,4 +1,8 @@
+-- A report and a farewell by what their call answers, settings by `item-passed`.
 use borrow.Author.Needs.{needs}
+use Rattle.register.specs.Register.{Call}
+use Rattle.table.specs.Intake.{recordOf}
+use Rattle.table.proofs.Cases.{item-passed, item-called}
 use Rattle.table.proofs.Table.intake_item.Statement.{statement}
 use Rattle.table.proofs.Table.intake_item.Tie as tie
 
@@ -9,7 +13,9 @@ enum-known-item-2 : tie.Need-enum-known-item-2
 enum-known-item-2 c = search needs
 
 returns : tie.Need-returns
-returns c = ?
+returns c =
+    let args = c .before .before .args in
+    item-passed (args .self) (args .item) (args .origin) (args .at) (c .before .match .keys2) (c .match2 .keys2)
 
 farewell-requires : tie.Need-farewell-requires
 farewell-requires c κs = search needs
@@ -18,7 +24,12 @@ numbered-requires : tie.Need-numbered-requires
 numbered-requires c κs = search needs
 
 returns-2 : tie.Need-returns-2
-returns-2 c = ?
+returns-2 c =
+    let args = c .before .before .before .before .before .before .args in
+    let item = c .before .before .before .item2 .given in
+    rw (item .1)
+    (item-called (args .self) (Call.farewell (item .0 .0) (args .origin)) _ _ (c .before .farewell .ensures)
+    (c .numbered .ensures))
 
 report-requires : tie.Need-report-requires
 report-requires c κs = search needs
@@ -27,7 +38,13 @@ numbered-requires-2 : tie.Need-numbered-requires-2
 numbered-requires-2 c κs = search needs
 
 returns-3 : tie.Need-returns-3
-returns-3 c = ?
+returns-3 c =
+    let args = c .before .before .before .before .before .args in
+    let item = c .before .before .before .item .given in
+    rw (item .1)
+    (item-called (args .self) (Call.report (recordOf (item .0 .0) (args .origin)) (args .at)) _ _
+    (c .before .report .ensures)
+    (c .numbered2 .ensures))
 
 pub intake-item-spec : {M : Type 1} → statement M
 intake-item-spec =

@@ -1,5 +1,5 @@
--- The number is the definition's, for what is asked of the member is. A number above 0 leaves the table, 0 files the report,
--- which then found room.
+-- The number is the definition's, since what the search says of its source is. Above 0 it leaves the table as it was; at 0
+-- the report found room and is filed.
 use mathlib.Core.Path.{sym, _∙_}
 use borrow.Author.Needs.{needs}
 use Rattle.register.specs.Register.{Call}
@@ -23,7 +23,8 @@ returns : tie.Need-returns
 returns c =
     let args = c .before .before .before .before .before .before .before .args in
     let e : _ =
-    report-number-there (args .self) (args .x) (args .at) _ _ _ _ (c .before .before .before .before .place-of .ensures .0)
+    report-number-there (args .self) (args .x) (args .at) _ _ _ _
+    (c .before .before .before .before .place-of .ensures .0)
     (c .before .before .before .is-elsewhere .ensures)
     (c .before .before .is-without-room .ensures)
     (c .before .report-number .ensures) in
@@ -33,11 +34,11 @@ file-requires : tie.Need-file-requires
 file-requires c κs =
     let args = c .before .before .before .before .before .before .before .args in
     let e : _ =
-    report-number-there (args .self) (args .x) (args .at) _ _ _ _ (c .before .before .before .before .place-of .ensures .0)
+    report-number-there (args .self) (args .x) (args .at) _ _ _ _
+    (c .before .before .before .before .place-of .ensures .0)
     (c .before .before .before .is-elsewhere .ensures)
     (c .before .before .is-without-room .ensures)
-    (c .before .report-number .ensures) in
-    (
+    (c .before .report-number .ensures) in (
       c .before .before .before .before .place-of .ensures .0,
       report-room (args .self) (args .x) (args .at) (sym e ∙ c .if1 .left),
     )
@@ -46,7 +47,8 @@ returns-2 : tie.Need-returns-2
 returns-2 c =
     let args = c .before .before .before .before .before .before .before .before .args in
     let e : _ =
-    report-number-there (args .self) (args .x) (args .at) _ _ _ _ (c .before .before .before .before .before .place-of .ensures .0)
+    report-number-there (args .self) (args .x) (args .at) _ _ _ _
+    (c .before .before .before .before .before .place-of .ensures .0)
     (c .before .before .before .before .is-elsewhere .ensures)
     (c .before .before .before .is-without-room .ensures)
     (c .before .before .report-number .ensures) in

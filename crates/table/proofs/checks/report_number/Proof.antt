@@ -1,6 +1,5 @@
--- Each return has the tests that led there, in the order of the checks.
-use mathlib.Core.Bool.{Bool, true, false}
-use mathlib.Core.Path.{_≡_, refl, sym, _∙_}
+-- Each return by the tests that led there, in the order of the checks.
+use mathlib.Core.Path.{refl, sym, _∙_}
 use borrow.Author.Needs.{needs}
 use borrow.Author.Tests.{eq-eqb, ne-eqb}
 use Rattle.register.specs.Register.{reportChecks}
@@ -26,10 +25,11 @@ is-far-requires c κs = search needs
 returns-4 : tie.Need-returns-4
 unfolding reportChecks
 returns-4 c =
+    let own = c .before .before in
     rw (
-      eq-eqb _ _ (c .before .before .before .before .before .if1 .left),
-      eq-eqb _ _ (c .before .before .before .if2 .left),
-      c .before .before .if3 .left,
+      eq-eqb _ _ (own .before .before .before .if1 .left),
+      eq-eqb _ _ (own .before .if2 .left),
+      own .if3 .left,
       sym (c .before .is-far .ensures) ∙ c .if4 .taken,
     ) refl
 
@@ -39,11 +39,13 @@ is-aged-requires c κs = search needs
 returns-5 : tie.Need-returns-5
 unfolding reportChecks
 returns-5 c =
+    let own = c .before .before .before .before in
+    let near = c .before .before in
     rw (
-      eq-eqb _ _ (c .before .before .before .before .before .before .before .if1 .left),
-      eq-eqb _ _ (c .before .before .before .before .before .if2 .left),
-      c .before .before .before .before .if3 .left,
-      sym (c .before .before .before .is-far .ensures) ∙ c .before .before .if4 .left,
+      eq-eqb _ _ (own .before .before .before .if1 .left),
+      eq-eqb _ _ (own .before .if2 .left),
+      own .if3 .left,
+      sym (near .before .is-far .ensures) ∙ near .if4 .left,
       sym (c .before .is-aged .ensures) ∙ c .if5 .taken,
     ) refl
 
@@ -53,38 +55,49 @@ presents-badly-requires c κs = search needs
 returns-6 : tie.Need-returns-6
 unfolding reportChecks
 returns-6 c =
+    let own = c .before .before .before .before .before .before in
+    let near = c .before .before .before .before in
+    let young = c .before .before in
     rw (
-      eq-eqb _ _ (c .before .before .before .before .before .before .before .before .before .if1 .left),
-      eq-eqb _ _ (c .before .before .before .before .before .before .before .if2 .left),
-      c .before .before .before .before .before .before .if3 .left,
-      sym (c .before .before .before .before .before .is-far .ensures) ∙ c .before .before .before .before .if4 .left,
-      sym (c .before .before .before .is-aged .ensures) ∙ c .before .before .if5 .left,
+      eq-eqb _ _ (own .before .before .before .if1 .left),
+      eq-eqb _ _ (own .before .if2 .left),
+      own .if3 .left,
+      sym (near .before .is-far .ensures) ∙ near .if4 .left,
+      sym (young .before .is-aged .ensures) ∙ young .if5 .left,
       sym (c .before .presents-badly .ensures) ∙ c .if6 .taken,
     ) refl
 
 returns-7 : tie.Need-returns-7
 unfolding reportChecks
 returns-7 c =
+    let own = c .before .before .before .before .before .before .before in
+    let near = c .before .before .before .before .before in
+    let young = c .before .before .before in
+    let shown = c .before in
     rw (
-      eq-eqb _ _ (c .before .before .before .before .before .before .before .before .before .before .if1 .left),
-      eq-eqb _ _ (c .before .before .before .before .before .before .before .before .if2 .left),
-      c .before .before .before .before .before .before .before .if3 .left,
-      sym (c .before .before .before .before .before .before .is-far .ensures) ∙ c .before .before .before .before .before .if4 .left,
-      sym (c .before .before .before .before .is-aged .ensures) ∙ c .before .before .before .if5 .left,
-      sym (c .before .before .presents-badly .ensures) ∙ c .before .if6 .left,
+      eq-eqb _ _ (own .before .before .before .if1 .left),
+      eq-eqb _ _ (own .before .if2 .left),
+      own .if3 .left,
+      sym (near .before .is-far .ensures) ∙ near .if4 .left,
+      sym (young .before .is-aged .ensures) ∙ young .if5 .left,
+      sym (shown .before .presents-badly .ensures) ∙ shown .if6 .left,
       c .if7 .taken,
     ) refl
 
 returns-8 : tie.Need-returns-8
 unfolding reportChecks
 returns-8 c =
+    let own = c .before .before .before .before .before .before .before in
+    let near = c .before .before .before .before .before in
+    let young = c .before .before .before in
+    let shown = c .before in
     rw (
-      eq-eqb _ _ (c .before .before .before .before .before .before .before .before .before .before .if1 .left),
-      eq-eqb _ _ (c .before .before .before .before .before .before .before .before .if2 .left),
-      c .before .before .before .before .before .before .before .if3 .left,
-      sym (c .before .before .before .before .before .before .is-far .ensures) ∙ c .before .before .before .before .before .if4 .left,
-      sym (c .before .before .before .before .is-aged .ensures) ∙ c .before .before .before .if5 .left,
-      sym (c .before .before .presents-badly .ensures) ∙ c .before .if6 .left,
+      eq-eqb _ _ (own .before .before .before .if1 .left),
+      eq-eqb _ _ (own .before .if2 .left),
+      own .if3 .left,
+      sym (near .before .is-far .ensures) ∙ near .if4 .left,
+      sym (young .before .is-aged .ensures) ∙ young .if5 .left,
+      sym (shown .before .presents-badly .ensures) ∙ shown .if6 .left,
       c .if7 .left,
     ) refl
 
