@@ -66,7 +66,7 @@ fn presents_badly(p: bool, received: u64, presented: u32) -> bool
 }
 
 // The first check that applies to a report, or 0. `elsewhere` says whether its number is held by another origin,
-// `no_room` whether it is new and all places are held.
+// `full` whether it is new and all places are held.
 pub(crate) fn report_number(
     group: u32,
     media: u32,
@@ -74,9 +74,9 @@ pub(crate) fn report_number(
     x: Record,
     at: Reading,
     elsewhere: bool,
-    no_room: bool,
+    full: bool,
 ) -> u64
-    ensures { λ r. ⌜ r ≡ reportChecks (record { group = group; media = media; rate = rate }) x at elsewhere «no_room» ⌝ }
+    ensures { λ r. ⌜ r ≡ reportChecks (record { group = group; media = media; rate = rate }) x at elsewhere full ⌝ }
 {
     let report = x.report;
     if report.group != group {
@@ -97,7 +97,7 @@ pub(crate) fn report_number(
     if presents_badly(report.p, report.received, report.presented) {
         return BADLY_PRESENTED;
     }
-    if no_room {
+    if full {
         return NO_ROOM;
     }
     0

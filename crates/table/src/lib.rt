@@ -139,8 +139,8 @@ impl Table {
         let origin = x.origin;
         let place = place_of(held, members, x.source);
         let elsewhere = is_elsewhere(members, place, origin);
-        let no_room = is_without_room(place, held);
-        let number = report_number(self.group, self.media, self.rate, x, at, elsewhere, no_room);
+        let full = is_without_room(place, held);
+        let number = report_number(self.group, self.media, self.rate, x, at, elsewhere, full);
         if number != 0 {
             return Answered {
                 number,

@@ -1,5 +1,4 @@
--- At its number's place by `filed-again`, at the lowest free one by `filed-anew`: that one is below 64, since the report
--- found room.
+-- At its number's place by `filed-again`, at the lowest free one by `filed-anew`. That is below 64: there was room.
 use Prim.Native.Nat.{ℕ, _^_}
 use mathlib.Core.Path.{ap, _∙_}
 use native.Mathlib.Omega.{arith}

@@ -1,5 +1,5 @@
--- The number is the definition's, since what the search says of its source is. Above 0 it leaves the table as it was; at 0
--- the report found room and is filed.
+-- The number is the definition's, since what the search says of its source is. Above 0 it leaves the table as it was;
+-- at 0 the report found room and is filed.
 use mathlib.Core.Path.{sym, _∙_}
 use borrow.Author.Needs.{needs}
 use Rattle.register.specs.Register.{Call}
