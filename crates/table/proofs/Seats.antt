@@ -94,15 +94,15 @@ rows-insert word (suc place) (m ∷ ms) x free h =
 -- ---- a held place is renewed, or freed
 
 -- a held place's digit can be taken away, and is free then
-pub held-digit :
+pub held-apart :
     (place word : ℕ) → isHeld place word ≡ true → (2 ^ place ≤ word) × (isHeld place (word - 2 ^ place) ≡ false)
 unfolding isHeld
-held-digit zero word held =
+held-apart zero word held =
     let odd : word % 2 ≡ 0 → ⊥ = eqb-false (word % 2) 0 (not-yes (isFree word) held) in
     let even : (word - 1) % 2 ≡ 0 = omega (arith, odd) in
     (omega (arith, odd), rw even refl)
-held-digit (suc place) word held =
-    let below : _ = held-digit place (word / 2) held in
+held-apart (suc place) word held =
+    let below : _ = held-apart place (word / 2) held in
     let half : (word - 2 ^ suc place) / 2 ≡ word / 2 - 2 ^ place = omega (arith, pow-suc 2 place) in
     (omega (arith, pow-suc 2 place, below .0), ap (isHeld place) half ∙ below .1)
 
@@ -111,7 +111,7 @@ pub rows-renew :
     (word place : ℕ) (ms : Rows) (x : Record) → isHeld place word ≡ true → place < length ms →
     List·Permᴰ (rowsAt word (set ms place x)) (x ∷ rowsAt (word - 2 ^ place) ms)
 rows-renew word place ms x held h =
-    let apart : _ = held-digit place word held in
+    let apart : _ = held-apart place word held in
     let whole : word ≡ word - 2 ^ place + 2 ^ place = omega (arith, apart .0) in
     permuted-by (ap (λ (w : ℕ). rowsAt w (set ms place x)) whole) refl
     (rows-insert (word - 2 ^ place) place ms x (apart .1) h)

@@ -1,9 +1,44 @@
 // The member table of one synchronization group: 64 places, and one word that marks those held.
+mod checks;
 mod choose;
+mod empty;
+mod search;
+mod word;
 
+use checks::BAD_OPENING;
+use checks::NO_MEMBER;
+use checks::OTHER_ORIGIN;
+use checks::is_refused_opening;
+use checks::is_without_room;
+use checks::report_number;
+use choose::choice_at;
+use choose::marks_at;
+use empty::empty_table;
+use empty::vacant_seat;
+use idms::Found;
+use idms::Item;
 use idms::Refusal;
+use idms::Report;
+use origin::Origin;
+use places::count_held;
+use places::lowest_free;
 use register::Choice;
+use register::Reading;
 use register::Record;
+use register::Standing;
+use search::is_elsewhere;
+use search::member_of;
+use search::place_of;
+use search::stored;
+use word::digit_at;
+use word::is_held;
+ghost use mathlib.Core.Path.{_≡_};
+ghost use mathlib.Core.Bool.{false};
+ghost use Rattle.register.specs.Register.{Call};
+ghost use Rattle.table.specs.Members.{placeIn, countOf, seatAt};
+ghost use Rattle.table.specs.Calls.{opened, isWithoutRoom, filed, answered};
+ghost use Rattle.table.specs.Choose.{chosenOf};
+ghost use Rattle.table.specs.Intake.{recordOf, itemTaken, taken};
 
 // A table for one group, media source and clock rate. The lowest digit of `held` marks the first place.
 pub struct Table {
@@ -44,4 +79,213 @@ pub enum Outcome {
 pub struct Taken {
     pub outcome: Outcome,
     pub table: Table,
+}
+
+// The number of a call, as an item's outcome.
+fn numbered(a: Answered) -> Taken
+    ensures { λ r. ⌜ r ≡ record { outcome = Outcome.Number (a .number); table = a .table } ⌝ }
+{
+    let table = a.table;
+    Taken {
+        outcome: Outcome::Number(a.number),
+        table,
+    }
+}
+
+// A report item under its origin. Its source number is the sender's.
+fn record_of(r: Report, origin: Origin) -> Record
+    ensures { λ x. ⌜ x ≡ recordOf r origin ⌝ }
+{
+    Record {
+        source: r.sender,
+        origin,
+        report: Standing {
+            received: r.received,
+            group: r.group,
+            media: r.media,
+            rtp: r.rtp,
+            presented: r.presented,
+            payload_type: r.payload_type,
+            p: r.p as u8,
+        },
+    }
+}
+
+impl Table {
+    // A table for a group, a media source and a clock rate. Refused with 12 it is one without members, for group, media
+    // source and rate 0.
+    pub fn open(group: u32, media: u32, rate: u32) -> Answered
+        ensures { λ r. ⌜ r ≡ opened (record { group = group; media = media; rate = rate }) ⌝ }
+    {
+        if is_refused_opening(group, rate) {
+            return Answered {
+                number: BAD_OPENING,
+                table: empty_table(0, 0, 0),
+            };
+        }
+        Answered {
+            number: 0,
+            table: empty_table(group, media, rate),
+        }
+    }
+
+    // An accepted report, filed at its number's place, or at the lowest free one.
+    fn file(self, place: usize, x: Record) -> Table
+        requires { ⌜ (place ≡ placeIn self (x .source)) × (isWithoutRoom self (x .source) ≡ false) ⌝ }
+        ensures { λ r. ⌜ r ≡ filed self x ⌝ }
+    {
+        let members = self.members;
+        let held = self.held;
+        if place < 64 {
+            return Table {
+                group: self.group,
+                media: self.media,
+                rate: self.rate,
+                held,
+                members: stored(members, place, x),
+            };
+        }
+        let free = lowest_free(held) as usize;
+        Table {
+            group: self.group,
+            media: self.media,
+            rate: self.rate,
+            held: held + digit_at(free),
+            members: stored(members, free, x),
+        }
+    }
+
+    // A report under its origin, at its sender's reading.
+    pub fn report(self, x: Record, at: Reading) -> Answered
+        ensures { λ r. ⌜ r ≡ answered self (Call.report x at) ⌝ }
+    {
+        let held = self.held;
+        let members = self.members;
+        let origin = x.origin;
+        let place = place_of(held, members, x.source);
+        let elsewhere = is_elsewhere(members, place, origin);
+        let full = is_without_room(place, held);
+        let number = report_number(self.group, self.media, self.rate, x, at, elsewhere, full);
+        if number != 0 {
+            return Answered {
+                number,
+                table: self,
+            };
+        }
+        Answered {
+            number: 0,
+            table: self.file(place, x),
+        }
+    }
+
+    // A farewell, which is a BYE source, under its origin. The member is removed if that origin holds the number.
+    pub fn farewell(self, source: u32, origin: Origin) -> Answered
+        ensures { λ r. ⌜ r ≡ answered self (Call.farewell source origin) ⌝ }
+    {
+        let held = self.held;
+        let members = self.members;
+        let place = place_of(held, members, source);
+        if 64 <= place {
+            return Answered {
+                number: NO_MEMBER,
+                table: self,
+            };
+        }
+        if is_elsewhere(members, place, origin) {
+            return Answered {
+                number: OTHER_ORIGIN,
+                table: self,
+            };
+        }
+        let table = Table {
+            group: self.group,
+            media: self.media,
+            rate: self.rate,
+            held: held - digit_at(place),
+            members,
+        };
+        Answered { number: 0, table }
+    }
+
+    // Every member that is not fresh at the reading is removed. A sweep is never refused.
+    pub fn sweep(self, at: Reading) -> Answered
+        ensures { λ r. ⌜ r ≡ answered self (Call.sweep at) ⌝ }
+    {
+        let members = self.members;
+        let marks = marks_at(self.held, members, self.rate, at);
+        let table = Table {
+            group: self.group,
+            media: self.media,
+            rate: self.rate,
+            held: marks.fresh,
+            members,
+        };
+        Answered { number: 0, table }
+    }
+
+    // The target at the reading, or 20 where no member is fresh.
+    pub fn choose(self, at: Reading) -> Chosen
+        ensures { λ r. ⌜ r ≡ chosenOf self at ⌝ }
+    {
+        let members = self.members;
+        let choice = choice_at(self.held, members, self.rate, at);
+        Chosen {
+            choice,
+            table: self,
+        }
+    }
+
+    // How many members there are.
+    pub fn count(self) -> u32
+        ensures { λ r. ⌜ r ≡ countOf self ⌝ }
+    {
+        count_held(self.held)
+    }
+
+    // The member at a place, if there is one.
+    pub fn member_at(self, place: usize) -> Seat
+        ensures { λ r. ⌜ r ≡ seatAt self place ⌝ }
+    {
+        let held = self.held;
+        let members = self.members;
+        if !is_held(held, place) {
+            return vacant_seat();
+        }
+        Seat {
+            held: 1,
+            member: member_of(members, place),
+        }
+    }
+
+    // An item under its origin and reading: a report or a farewell is called, settings are passed by.
+    fn intake_item(self, item: Item, origin: Origin, at: Reading) -> Taken
+        ensures { λ r. ⌜ r ≡ itemTaken self item origin at ⌝ }
+    {
+        let Item::Report(report) = item else {
+            let Item::Farewell(source) = item else {
+                return Taken {
+                    outcome: Outcome::Passed,
+                    table: self,
+                };
+            };
+            return numbered(self.farewell(source, origin));
+        };
+        numbered(self.report(record_of(report, origin), at))
+    }
+
+    // What the reader gives at an index, under its datagram's origin and reading.
+    pub fn intake(self, found: Found, origin: Origin, at: Reading) -> Taken
+        ensures { λ r. ⌜ r ≡ taken self found origin at ⌝ }
+    {
+        match found {
+            Found::Item(x) => {
+                let item = x.item;
+                self.intake_item(item, origin, at)
+            }
+            Found::Refused(r) => Taken {
+                outcome: Outcome::Refused(r),
+                table: self,
+            },
+        }
+    }
 }

@@ -1,0 +1,67 @@
+-- The number is the definition's, since what the search says of its source is. Above 0 it leaves the table as it was;
+-- at 0 the report found room and is filed.
+use mathlib.Core.Path.{sym, _∙_}
+use borrow.Author.Needs.{needs}
+use Rattle.register.specs.Register.{Call}
+use Rattle.table.proofs.Cases.{call-refused, call-accepted, report-number-there, report-room}
+use Rattle.table.proofs.Table.report.Statement.{statement}
+use Rattle.table.proofs.Table.report.Tie as tie
+
+place-of-requires : tie.Need-place-of-requires
+place-of-requires c κs = search needs
+
+is-elsewhere-requires : tie.Need-is-elsewhere-requires
+is-elsewhere-requires c κs = search needs
+
+is-without-room-requires : tie.Need-is-without-room-requires
+is-without-room-requires c κs = search needs
+
+report-number-requires : tie.Need-report-number-requires
+report-number-requires c κs = search needs
+
+returns : tie.Need-returns
+returns c =
+    let args = c .before .before .before .before .before .before .before .args in
+    let e : _ =
+    report-number-there (args .self) (args .x) (args .at) _ _ _ _
+    (c .before .before .before .before .place-of .ensures .0)
+    (c .before .before .before .is-elsewhere .ensures)
+    (c .before .before .is-without-room .ensures)
+    (c .before .report-number .ensures) in
+    call-refused (args .self) _ _ e (c .if1 .taken)
+
+file-requires : tie.Need-file-requires
+file-requires c κs =
+    let args = c .before .before .before .before .before .before .before .args in
+    let e : _ =
+    report-number-there (args .self) (args .x) (args .at) _ _ _ _
+    (c .before .before .before .before .place-of .ensures .0)
+    (c .before .before .before .is-elsewhere .ensures)
+    (c .before .before .is-without-room .ensures)
+    (c .before .report-number .ensures) in (
+      c .before .before .before .before .place-of .ensures .0,
+      report-room (args .self) (args .x) (args .at) (sym e ∙ c .if1 .left),
+    )
+
+returns-2 : tie.Need-returns-2
+returns-2 c =
+    let args = c .before .before .before .before .before .before .before .before .args in
+    let e : _ =
+    report-number-there (args .self) (args .x) (args .at) _ _ _ _
+    (c .before .before .before .before .before .place-of .ensures .0)
+    (c .before .before .before .before .is-elsewhere .ensures)
+    (c .before .before .before .is-without-room .ensures)
+    (c .before .before .report-number .ensures) in
+    call-accepted (args .self) _ (Call.report (args .x) (args .at)) (sym e ∙ c .before .if1 .left) (c .file .ensures)
+
+pub report-spec : {M : Type 1} → statement M
+report-spec =
+    tie.close
+    (tie.spec
+    place-of-requires
+    is-elsewhere-requires
+    is-without-room-requires
+    report-number-requires
+    returns
+    file-requires
+    returns-2)

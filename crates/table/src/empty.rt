@@ -1,0 +1,54 @@
+// What stands for nothing: a record of zeros, a place without a member, a table without members.
+use crate::Seat;
+use crate::Table;
+use origin::Origin;
+use register::Record;
+use register::Standing;
+ghost use mathlib.Core.Path.{_≡_};
+ghost use Rattle.table.specs.Members.{vacant, emptyTable};
+
+// A record of zeros.
+fn vacant_record() -> Record
+    ensures { λ r. ⌜ r ≡ vacant ⌝ }
+{
+    Record {
+        source: 0,
+        origin: Origin {
+            address: [0u8; 16],
+            port: 0,
+        },
+        report: Standing {
+            received: 0,
+            group: 0,
+            media: 0,
+            rtp: 0,
+            presented: 0,
+            payload_type: 0,
+            p: 0,
+        },
+    }
+}
+
+// No member.
+pub(crate) fn vacant_seat() -> Seat
+    ensures { λ r. ⌜ r ≡ record { held = 0; member = vacant } ⌝ }
+{
+    Seat {
+        held: 0,
+        member: vacant_record(),
+    }
+}
+
+// A table without members.
+pub(crate) fn empty_table(group: u32, media: u32, rate: u32) -> Table
+    ensures { λ r. ⌜ r ≡ emptyTable (record { group = group; media = media; rate = rate }) ⌝ }
+{
+    let vacant = vacant_record();
+    Table {
+        group,
+        media,
+        rate,
+        held: 0,
+        members: [vacant; 64],
+    }
+}

@@ -1,0 +1,66 @@
+// Where a number's member stands, and what is at a place.
+use origin::Origin;
+use origin::same_origin;
+use register::Record;
+ghost use mathlib.Core.Path.{_≡_};
+ghost use mathlib.Core.Bool.{true, not, _&&_};
+ghost use Prim.Native.Nat.{_≤_, _<_};
+ghost use lib.Dec.{ltb, eqb};
+ghost use lib.ListN.{getD, set};
+ghost use Rattle.origin.specs.Origins.{sameOrigin};
+ghost use Rattle.places.specs.Places.{isHeld};
+ghost use Rattle.table.specs.Members.{nowhere, isFree, placeOf};
+
+// Whether the word's first place is held, by a member of this number.
+fn is_held_by(word: u64, number: u32, source: u32) -> bool
+    ensures { λ r. ⌜ r ≡ (not (isFree word) && eqb number source) ⌝ }
+{
+    if word % 2 == 0 {
+        return false;
+    }
+    number == source
+}
+
+// The place of the member with a number, which is held, or 64 where none has it.
+pub(crate) fn place_of(held: u64, members: [Record; 64], source: u32) -> usize
+    ensures { λ r. ⌜ (r ≡ placeOf source held members) × (r ≤ 64) × (r < 64 → isHeld r held ≡ true) ⌝ }
+{
+    let mut word = held;
+    let mut i: usize = 0;
+    while i < 64 {
+        if is_held_by(word, members[i].source, source) {
+            return i;
+        }
+        word /= 2;
+        i += 1;
+    }
+    64
+}
+
+// The record at a place.
+pub(crate) fn member_of(members: [Record; 64], place: usize) -> Record
+    requires { ⌜ place < 64 ⌝ }
+    ensures { λ r. ⌜ r ≡ getD members place nowhere ⌝ }
+{
+    members[place]
+}
+
+// The records with another one at a place.
+pub(crate) fn stored(mut members: [Record; 64], place: usize, x: Record) -> [Record; 64]
+    requires { ⌜ place < 64 ⌝ }
+    ensures { λ r. ⌜ r ≡ set members place x ⌝ }
+{
+    members[place] = x;
+    members
+}
+
+// Whether a member stands at a place, with another origin.
+pub(crate) fn is_elsewhere(members: [Record; 64], place: usize, origin: Origin) -> bool
+    ensures { λ r. ⌜ r ≡ (ltb place 64 && not (sameOrigin (getD members place nowhere .origin) origin)) ⌝ }
+{
+    if 64 <= place {
+        return false;
+    }
+    let there = members[place];
+    !same_origin(there.origin, origin)
+}
