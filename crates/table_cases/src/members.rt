@@ -1,8 +1,8 @@
 // The papers' reports, origins and readings.
-use idms::Report;
 use origin::Origin;
 use register::Reading;
 use register::Record;
+use register::Standing;
 
 // N = 1000 s, R = 9,000,000.
 pub(crate) fn usual_reading() -> Reading {
@@ -40,15 +40,14 @@ pub(crate) fn member(source: u32, received: u64, rtp: u32, presented: u32) -> Re
     Record {
         source,
         origin: usual_origin(source),
-        report: Report {
-            sender: source,
-            payload_type: 33,
-            p: true,
+        report: Standing {
+            received,
             group: 42,
             media: 7,
-            received,
             rtp,
             presented,
+            payload_type: 33,
+            p: 1,
         },
     }
 }
@@ -75,47 +74,27 @@ pub(crate) fn at_rtp(source: u32, rtp: u32) -> Record {
 
 // The same report without a presented time.
 pub(crate) fn arriving(x: Record) -> Record {
-    let report = x.report;
-    Record {
-        source: x.source,
-        origin: x.origin,
-        report: Report {
-            sender: report.sender,
-            payload_type: report.payload_type,
-            p: false,
-            group: report.group,
-            media: report.media,
-            received: report.received,
-            rtp: report.rtp,
-            presented: 0,
-        },
-    }
+    let mut report = x.report;
+    report.p = 0;
+    report.presented = 0;
+    let mut arriving = x;
+    arriving.report = report;
+    arriving
 }
 
 // The same report from elsewhere.
 pub(crate) fn from(x: Record, origin: Origin) -> Record {
-    Record {
-        source: x.source,
-        origin,
-        report: x.report,
-    }
+    let mut moved = x;
+    moved.origin = origin;
+    moved
 }
 
 // The same report of another group and media source.
 pub(crate) fn of(x: Record, group: u32, media: u32) -> Record {
-    let report = x.report;
-    Record {
-        source: x.source,
-        origin: x.origin,
-        report: Report {
-            sender: report.sender,
-            payload_type: report.payload_type,
-            p: report.p,
-            group,
-            media,
-            received: report.received,
-            rtp: report.rtp,
-            presented: report.presented,
-        },
-    }
+    let mut report = x.report;
+    report.group = group;
+    report.media = media;
+    let mut other = x;
+    other.report = report;
+    other
 }

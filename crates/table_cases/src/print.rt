@@ -71,7 +71,7 @@ pub(crate) fn members(t: Table) {
 pub(crate) fn place(t: Table, place: usize) {
     print_number(b"place ", place as u64);
     let seat = t.member_at(place);
-    if seat.held {
+    if seat.held != 0 {
         let member = seat.member;
         print_number(b" source ", member.source as u64);
     } else {

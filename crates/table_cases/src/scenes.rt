@@ -76,10 +76,8 @@ pub(crate) fn farewells() {
 // Sources 1 to 64.
 fn filled() -> Table {
     let mut t = usual();
-    let mut source: u32 = 1;
-    while source <= 64 {
+    for source in 1..65 {
         t = report(t, first(source), usual_reading());
-        source += 1;
     }
     t
 }
