@@ -2,9 +2,12 @@
 //! have to agree on the inputs before anything is timed.
 
 mod archive;
+mod archive_table;
 mod inputs;
 mod messages;
 mod peer;
+mod peer_table;
+mod tables;
 mod peer_encoder;
 
 use inputs::{Input, Random};
@@ -60,6 +63,7 @@ fn main() {
     print_writes_title();
     print_writes("report", REPORT_WRITERS, &messages::reports());
     print_writes("settings", SETTINGS_WRITERS, &messages::settings());
+    tables::print();
 }
 
 /// Panics where the archive and the peer differ on an input, or on copies of

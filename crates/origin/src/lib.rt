@@ -3,6 +3,7 @@ ghost use mathlib.Core.Path.{_≡_};
 ghost use Rattle.origin.specs.Origins.{sameBytes, sameOrigin};
 
 // An address of sixteen bytes and a port.
+#[repr(C)]
 pub struct Origin {
     pub address: [u8; 16],
     pub port: u16,

@@ -3,6 +3,7 @@ use origin::Origin;
 
 // A report as it stands in a row: the fields of a report item but its sender, who is the record's source. P is 1 where
 // `p` is not 0. No field is a bool, so that a host in C can hold any bytes here and still be answered.
+#[repr(C)]
 pub struct Standing {
     pub received: u64,
     pub group: u32,
@@ -14,6 +15,7 @@ pub struct Standing {
 }
 
 // A report with its source number and its origin: what the table is told, and what it holds.
+#[repr(C)]
 pub struct Record {
     pub source: u32,
     pub origin: Origin,
@@ -21,6 +23,7 @@ pub struct Record {
 }
 
 // A sender's reading of both clocks: NTP time N and RTP time R.
+#[repr(C)]
 pub struct Reading {
     pub ntp: u64,
     pub rtp: u32,
@@ -28,6 +31,7 @@ pub struct Reading {
 
 // The member to follow: its number, the settings fields from its own report, and how many members were counted.
 // `presented` is 0 in arrival mode.
+#[repr(C)]
 pub struct Target {
     pub source: u32,
     pub group: u32,

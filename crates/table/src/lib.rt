@@ -41,6 +41,7 @@ ghost use Rattle.table.specs.Choose.{chosenOf};
 ghost use Rattle.table.specs.Intake.{recordOf, itemTaken, taken};
 
 // A table for one group, media source and clock rate. The lowest digit of `held` marks the first place.
+#[repr(C)]
 pub struct Table {
     group: u32,
     media: u32,
@@ -50,6 +51,7 @@ pub struct Table {
 }
 
 // A refusal's number, or 0 that there is none, and the table afterwards.
+#[repr(C)]
 pub struct Answered {
     pub number: u64,
     pub table: Table,
@@ -62,6 +64,7 @@ pub struct Chosen {
 }
 
 // The member at a place, where `held` is 1. Where none is held there, it is 0 and `member` a record of zeros.
+#[repr(C)]
 pub struct Seat {
     pub held: u32,
     pub member: Record,

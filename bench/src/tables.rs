@@ -1,0 +1,149 @@
+//! Times the calls of the member table beside the peer's, which changes its
+//! table in place.
+
+use crate::archive_table as ours;
+use crate::peer_table as peer;
+use crate::interleaved;
+use std::hint::black_box;
+
+const SECOND: u64 = 1 << 32;
+
+const READING: peer::Reading = peer::Reading {
+    ntp: 1000 * SECOND,
+    rtp: 9_000_000,
+};
+
+fn record(source: u32) -> peer::Record {
+    let mut address = [0, 0, 0, 0, 0, 0, 0, 0, 0, 0, 255, 255, 192, 0, 2, 0];
+    address[15] = source as u8;
+    peer::Record {
+        source,
+        origin: peer::Origin {
+            address,
+            port: 5000,
+        },
+        report: peer::Report {
+            sender: source,
+            payload_type: 33,
+            p: true,
+            group: 42,
+            media: 7,
+            received: 999 * SECOND + u64::from(source) * 0x1_0000,
+            rtp: 8_910_000,
+            presented: 0x03E7_8000 + source * 7 % 64,
+        },
+    }
+}
+
+/// Both tables with members 1 to `members`.
+struct Pair {
+    ours: ours::Table,
+    peers: peer::Table,
+}
+
+impl Pair {
+    fn with(members: u32) -> Pair {
+        let mut pair = Pair {
+            ours: unsafe { ours::prunepocket_open(42, 7, 90_000) }.table,
+            peers: peer::Table::open(42, 7, 90_000).expect("it opens"),
+        };
+        for source in 1..=members {
+            assert_eq!(pair.report(&record(source), &READING), 0);
+        }
+        pair
+    }
+
+    /// Panics where the two differ.
+    fn report(&mut self, record: &peer::Record, reading: &peer::Reading) -> u64 {
+        let told = unsafe { ours::prunepocket_report(self.ours, record.into(), reading.into()) };
+        let answer = self.peers.report(record, reading);
+        assert_eq!(told.number as u32, answer.err().unwrap_or(0));
+        self.ours = told.table;
+        self.agree(reading);
+        told.number
+    }
+
+    fn agree(&self, reading: &peer::Reading) {
+        let followed = unsafe { ours::prunepocket_choose(self.ours, reading.into()) };
+        assert_eq!(followed.answer(), self.peers.choose(reading));
+    }
+}
+
+/// A report of a member, or of the first source where there is none. It stays.
+fn time_report(members: u32) -> (f64, f64) {
+    let Pair { mut ours, mut peers } = Pair::with(members);
+    let known = record(members.max(1));
+    let told = ours::Record::from(&known);
+    let at = ours::Reading::from(&READING);
+    interleaved(
+        1,
+        || {
+            let answer = unsafe { ours::prunepocket_report(ours, told, at) };
+            ours = answer.table;
+            black_box(answer.number);
+        },
+        || drop(black_box(black_box(&mut peers).report(black_box(&known), black_box(&READING)))),
+    )
+}
+
+/// A farewell of the last member from another origin: 14, or 19 without members.
+fn time_refused_farewell(members: u32) -> (f64, f64) {
+    let Pair { mut ours, mut peers } = Pair::with(members);
+    let mut elsewhere = record(members).origin;
+    elsewhere.port += 1;
+    let origin = ours::Origin::from(&elsewhere);
+    interleaved(
+        1,
+        || {
+            let answer = unsafe { ours::prunepocket_farewell(ours, members, origin) };
+            ours = answer.table;
+            black_box(answer.number);
+        },
+        || drop(black_box(black_box(&mut peers).farewell(black_box(members), black_box(&elsewhere)))),
+    )
+}
+
+/// A sweep that removes nobody.
+fn time_sweep(members: u32) -> (f64, f64) {
+    let Pair { mut ours, mut peers } = Pair::with(members);
+    let at = ours::Reading::from(&READING);
+    interleaved(
+        1,
+        || ours = unsafe { ours::prunepocket_sweep(ours, at) }.table,
+        || black_box(&mut peers).sweep(black_box(&READING)),
+    )
+}
+
+fn time_choose(members: u32) -> (f64, f64) {
+    let Pair { mut ours, peers } = Pair::with(members);
+    let at = ours::Reading::from(&READING);
+    interleaved(
+        1,
+        || {
+            let followed = unsafe { ours::prunepocket_choose(ours, at) };
+            ours = followed.table;
+            black_box(followed.number);
+        },
+        || drop(black_box(black_box(&peers).choose(black_box(&READING)))),
+    )
+}
+
+pub fn print() {
+    println!();
+    println!(
+        "{:<32}{:>8}{:>10}{:>10}{:>12}",
+        "member table", "members", "ours ns", "peer ns", "ours/peer"
+    );
+    let calls: [(&str, fn(u32) -> (f64, f64)); 4] = [
+        ("report", time_report),
+        ("farewell, refused", time_refused_farewell),
+        ("sweep", time_sweep),
+        ("choose", time_choose),
+    ];
+    for (name, time) in calls {
+        for members in [0, 1, 32, 64] {
+            let (ours, peers) = time(members);
+            println!("{name:<32}{members:>8}{ours:>10.1}{peers:>10.1}{:>12.2}", ours / peers);
+        }
+    }
+}

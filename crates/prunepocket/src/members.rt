@@ -1,0 +1,107 @@
+// The member table for C, which holds it by value and passes it from call to call.
+use origin::Origin;
+use register::Choice;
+use register::Reading;
+use register::Record;
+use register::Target;
+use table::Answered;
+use table::Seat;
+use table::Table;
+ghost use mathlib.Core.Path.{_≡_};
+ghost use Rattle.register.specs.Register.{Call};
+ghost use Rattle.table.specs.Members.{countOf, seatAt};
+ghost use Rattle.table.specs.Calls.{opened, answered};
+ghost use Rattle.table.specs.Choose.{choiceOf};
+ghost use Rattle.prunepocket.specs.Following.{noTarget, followedOf};
+
+// What choosing answers: 0 and the target, or a refusal's number and a target of zeros; and the table as it was.
+#[repr(C)]
+pub struct Followed {
+    pub number: u64,
+    pub target: Target,
+    pub table: Table,
+}
+
+#[no_mangle]
+pub extern "C" fn prunepocket_open(group: u32, media: u32, rate: u32) -> Answered
+    ensures { λ r. ⌜ r ≡ opened (record { group = group; media = media; rate = rate }) ⌝ }
+{
+    Table::open(group, media, rate)
+}
+
+#[no_mangle]
+pub extern "C" fn prunepocket_report(t: Table, x: Record, at: Reading) -> Answered
+    ensures { λ r. ⌜ r ≡ answered t (Call.report x at) ⌝ }
+{
+    t.report(x, at)
+}
+
+#[no_mangle]
+pub extern "C" fn prunepocket_farewell(t: Table, source: u32, origin: Origin) -> Answered
+    ensures { λ r. ⌜ r ≡ answered t (Call.farewell source origin) ⌝ }
+{
+    t.farewell(source, origin)
+}
+
+#[no_mangle]
+pub extern "C" fn prunepocket_sweep(t: Table, at: Reading) -> Answered
+    ensures { λ r. ⌜ r ≡ answered t (Call.sweep at) ⌝ }
+{
+    t.sweep(at)
+}
+
+#[no_mangle]
+pub extern "C" fn prunepocket_members(t: Table) -> u32
+    ensures { λ r. ⌜ r ≡ countOf t ⌝ }
+{
+    t.count()
+}
+
+#[no_mangle]
+pub extern "C" fn prunepocket_member_at(t: Table, place: usize) -> Seat
+    ensures { λ r. ⌜ r ≡ seatAt t place ⌝ }
+{
+    t.member_at(place)
+}
+
+// The target that stands for none.
+fn no_target() -> Target
+    ensures { λ r. ⌜ r ≡ noTarget ⌝ }
+{
+    Target {
+        source: 0,
+        group: 0,
+        media: 0,
+        received: 0,
+        rtp: 0,
+        presented: 0,
+        counted: 0,
+    }
+}
+
+fn followed_by(choice: Choice, t: Table) -> Followed
+    ensures { λ r. ⌜ r ≡ followedOf choice t ⌝ }
+{
+    match choice {
+        Choice::Target(x) => Followed {
+            number: 0,
+            target: x,
+            table: t,
+        },
+        Choice::Refused(n) => Followed {
+            number: n,
+            target: no_target(),
+            table: t,
+        },
+    }
+}
+
+#[no_mangle]
+pub extern "C" fn prunepocket_choose(t: Table, at: Reading) -> Followed
+    ensures { λ r. ⌜ r ≡ followedOf (choiceOf t at) t ⌝ }
+{
+    let chosen = t.choose(at);
+    let choice = chosen.choice;
+    let table = chosen.table;
+    followed_by(choice, table)
+}
