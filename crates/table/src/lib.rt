@@ -29,7 +29,6 @@ use register::Standing;
 use search::is_elsewhere;
 use search::member_of;
 use search::place_of;
-use search::stored;
 use word::digit_at;
 use word::is_held;
 ghost use mathlib.Core.Path.{_≡_};
@@ -137,25 +136,16 @@ impl Table {
         requires { ⌜ (place ≡ placeIn self (x .source)) × (isWithoutRoom self (x .source) ≡ false) ⌝ }
         ensures { λ r. ⌜ r ≡ filed self x ⌝ }
     {
-        let members = self.members;
         let held = self.held;
+        let mut next = self;
         if place < 64 {
-            return Table {
-                group: self.group,
-                media: self.media,
-                rate: self.rate,
-                held,
-                members: stored(members, place, x),
-            };
+            next.members[place] = x;
+            return next;
         }
         let free = lowest_free(held) as usize;
-        Table {
-            group: self.group,
-            media: self.media,
-            rate: self.rate,
-            held: held + digit_at(free),
-            members: stored(members, free, x),
-        }
+        next.held = held + digit_at(free);
+        next.members[free] = x;
+        next
     }
 
     // A report under its origin, at its sender's reading.
@@ -200,14 +190,12 @@ impl Table {
                 table: self,
             };
         }
-        let table = Table {
-            group: self.group,
-            media: self.media,
-            rate: self.rate,
-            held: held - digit_at(place),
-            members,
-        };
-        Answered { number: 0, table }
+        let mut next = self;
+        next.held = held - digit_at(place);
+        Answered {
+            number: 0,
+            table: next,
+        }
     }
 
     // Every member that is not fresh at the reading is removed. A sweep is never refused.
@@ -216,14 +204,12 @@ impl Table {
     {
         let members = self.members;
         let marks = marks_at(self.held, members, self.rate, at);
-        let table = Table {
-            group: self.group,
-            media: self.media,
-            rate: self.rate,
-            held: marks.fresh,
-            members,
-        };
-        Answered { number: 0, table }
+        let mut next = self;
+        next.held = marks.fresh;
+        Answered {
+            number: 0,
+            table: next,
+        }
     }
 
     // The target at the reading, or 20 where no member is fresh.

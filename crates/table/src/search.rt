@@ -6,7 +6,7 @@ ghost use mathlib.Core.Path.{_≡_};
 ghost use mathlib.Core.Bool.{true, not, _&&_};
 ghost use Prim.Native.Nat.{_≤_, _<_};
 ghost use lib.Dec.{ltb, eqb};
-ghost use lib.ListN.{getD, set};
+ghost use lib.ListN.{getD};
 ghost use Rattle.origin.specs.Origins.{sameOrigin};
 ghost use Rattle.places.specs.Places.{isHeld};
 ghost use Rattle.table.specs.Members.{nowhere, isFree, placeOf};
@@ -43,15 +43,6 @@ pub(crate) fn member_of(members: [Record; 64], place: usize) -> Record
     ensures { λ r. ⌜ r ≡ getD members place nowhere ⌝ }
 {
     members[place]
-}
-
-// The records with another one at a place.
-pub(crate) fn stored(mut members: [Record; 64], place: usize, x: Record) -> [Record; 64]
-    requires { ⌜ place < 64 ⌝ }
-    ensures { λ r. ⌜ r ≡ set members place x ⌝ }
-{
-    members[place] = x;
-    members
 }
 
 // Whether a member stands at a place, with another origin.

@@ -31,8 +31,8 @@ returns-2 c =
 digit-at-requires : tie.Need-digit-at-requires
 digit-at-requires c κs = search needs
 
-sub-t11 : tie.Need-sub-t11
-sub-t11 c =
+sub-next : tie.Need-sub-next
+sub-next c =
     let held = c .before .before .before .before .before .before .args .self .held in
     let place-of = c .before .before .before .before .place-of in
     omega (
@@ -61,5 +61,5 @@ farewell-spec =
     is-elsewhere-requires
     returns-2
     digit-at-requires
-    sub-t11
+    sub-next
     returns-3)
