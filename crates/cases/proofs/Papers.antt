@@ -10,10 +10,11 @@ use Rattle.table.specs.Members.{emptyTable, rowsAt, placeOf, keepWord}
 use Rattle.table.specs.Calls.{opened, numberOf, filed, answered}
 use Rattle.table.specs.Choose.{led, choiceAmong, choiceOf}
 use Rattle.table.specs.History.{tableFrom}
+use Rattle.writer.specs.Messages.{reportIsUnwritable}
 use Rattle.cases.specs.Cases.{papers, AllHold}
 
 pub papers-hold : AllHold papers
-unfolding AllHold papers ntpAge rtpAge step unwrapped expanded delay sameBytes sameOrigin heldIn lowestFree reportChecks lateness leader emptyTable rowsAt placeOf keepWord opened numberOf filed answered led choiceAmong choiceOf tableFrom
+unfolding AllHold papers ntpAge rtpAge step unwrapped expanded delay sameBytes sameOrigin heldIn lowestFree reportChecks lateness leader emptyTable rowsAt placeOf keepWord opened numberOf filed answered led choiceAmong choiceOf tableFrom reportIsUnwritable
 papers-hold = (
   (refl, refl),
   (
@@ -31,7 +32,7 @@ papers-hold = (
               (
                 (refl, refl, refl, refl),
                 (
-                  (refl, refl, refl),
+                  (refl, refl, refl, refl),
                   ((refl, refl, refl), tt),
                 ),
               ),

@@ -1,22 +1,25 @@
 -- The bench cases of document 01 that are marked P, as one list of statements about the definitions.
 use Prim.Native.Nat.{ℕ, _+_, _-_, _*_, _^_}
-use mathlib.Core.Bool.{true, false}
+use mathlib.Core.Bool.{false}
 use mathlib.Core.List.{List, [], _∷_}
 use mathlib.Core.Path.{_≡_}
 use lib.IntN.{pos}
+use lib.ListN.{replicate}
 use Rattle.idms.specs.declared.Report.{Report}
+use Rattle.idms.specs.declared.Settings.{Settings}
 use Rattle.origin.specs.declared.Origin.{Origin}
 use Rattle.times.specs.Times.{ntpAge, delay, expanded, isFar, isAged, isBadlyPresented}
 use Rattle.register.specs.declared.Record.{Record}
 use Rattle.register.specs.declared.Reading.{Reading}
 use Rattle.register.specs.declared.Choice.{Choice}
+use Rattle.register.specs.declared.Target.{Target}
 use Rattle.register.specs.Register.{Opening, Call, presents}
 use Rattle.register.specs.Choosing.{latenessOf}
 use Rattle.table.specs.declared.Table.{Table}
 use Rattle.table.specs.Calls.{opened, answered}
 use Rattle.table.specs.Choose.{choiceOf}
 use Rattle.table.specs.History.{tableFrom}
-use Rattle.writer.specs.Messages.{bytesOf, reportWords, settingsWords}
+use Rattle.writer.specs.Messages.{reportWords, settingsWords, reportIsUnwritable, settingsAreUnwritable, buffer}
 
 -- ---- the table and the reading of every case that states no other
 
@@ -30,8 +33,8 @@ abbrev pub reading : Reading
 reading = record { ntp = seconds 1000; rtp = 9000000 }
 
 -- a port of the address ::ffff:192.0.2.1
-abbrev pub port : ℕ → Origin
-port n =
+abbrev pub originAt : ℕ → Origin
+originAt n =
     record { address = 0 ∷ 0 ∷ 0 ∷ 0 ∷ 0 ∷ 0 ∷ 0 ∷ 0 ∷ 0 ∷ 0 ∷ 255 ∷ 255 ∷ 192 ∷ 0 ∷ 2 ∷ 1 ∷ []; port = n }
 
 -- a report with P 1 and payload type 33 from a port of its own
@@ -39,7 +42,7 @@ abbrev pub member : (source received rtp presented : ℕ) → Record
 member source received rtp presented =
     record {
       source = source;
-      origin = port (5000 + source);
+      origin = originAt (5000 + source);
       report = record {
         «payload_type» = 33;
         p = 1;
@@ -57,7 +60,7 @@ ten = member 10 (seconds 999) 8910000 0x03E78000
 abbrev pub twenty : Record
 twenty = member 20 (seconds 998) 8820000 0x03E6C000
 
--- the table that accepted reports leave, one after the other
+-- the table after two reports, one after the other
 abbrev pub holding : Record → Record → Table
 holding x y = tableFrom (opened opening .table) (Call.report x reading ∷ Call.report y reading ∷ [])
 
@@ -88,34 +91,44 @@ reportOf x =
       presented = x .report .presented;
     }
 
--- the settings packet of a choice, from a sender
-abbrev pub settingsBytes : ℕ → Choice → List ℕ
-settingsBytes sender (Choice.Target x) =
-    bytesOf
-    (settingsWords
-    (record {
+-- the settings of a target, from a sender
+abbrev pub settingsOf : ℕ → Target → Settings
+settingsOf sender x =
+    record {
       sender = sender;
       media = x .media;
       group = x .group;
       received = x .received;
       rtp = x .rtp;
       presented = x .presented;
-    }))
+    }
+
+-- what the writers leave in buffers of zeros, as long as their messages
+abbrev pub settingsBytes : ℕ → Choice → List ℕ
+settingsBytes sender (Choice.Target x) =
+    buffer (settingsAreUnwritable (settingsOf sender x)) (settingsWords (settingsOf sender x)) (replicate 36 0)
 settingsBytes sender (Choice.Refused number) = []
+
+abbrev pub reportBytes : Report → List ℕ
+reportBytes r = buffer (reportIsUnwritable r) (reportWords r) (replicate 40 0)
+
+-- what a new table answers to a report
+abbrev pub numberAt : Reading → Record → ℕ
+numberAt at x = answered (opened opening .table) (Call.report x at) .number
 
 -- ---- the cases
 
 -- source 10: lateness 45,000 × 2^32
 abbrev pub P1 : Type 0
 P1 =
-    (answered (opened opening .table) (Call.report ten reading) .number ≡ 0)
-    × (latenessOf opening reading false ten ≡ pos (45000 * 2 ^ 32))
+    (numberAt reading ten ≡ 0)
+    × (latenessOf opening reading ten ≡ pos (45000 * 2 ^ 32))
 
 -- source 20: lateness 67,500 × 2^32
 abbrev pub P2 : Type 0
 P2 =
-    (answered (opened opening .table) (Call.report twenty reading) .number ≡ 0)
-    × (latenessOf opening reading false twenty ≡ pos (67500 * 2 ^ 32))
+    (numberAt reading twenty ≡ 0)
+    × (latenessOf opening reading twenty ≡ pos (67500 * 2 ^ 32))
 
 -- P1 and P2 held: 20 chosen, 2 counted; settings from sender 1
 abbrev pub P3 : Type 0
@@ -132,13 +145,13 @@ tenLater = member 10 (seconds 999) 8910000 0x03E7C000
 
 abbrev pub P4 : Type 0
 P4 =
-    (latenessOf opening reading false tenLater ≡ latenessOf opening reading false twenty)
+    (latenessOf opening reading tenLater ≡ latenessOf opening reading twenty)
     × (choiceOf (holding tenLater twenty) reading ≡ target 10 (seconds 999) 8910000 (seconds 999 + 0xC0000000) 2)
 
 -- the report of P2 with payload type 33
 abbrev pub P5 : Type 0
 P5 =
-    bytesOf (reportWords (reportOf twenty))
+    reportBytes (reportOf twenty)
     ≡ 0x80 ∷ 0xCF ∷ 0x00 ∷ 0x09 ∷ 0x00 ∷ 0x00 ∷ 0x00 ∷ 0x14 ∷ 0x0C ∷ 0x11 ∷ 0x00 ∷ 0x07
     ∷ 0x42 ∷ 0x00 ∷ 0x00 ∷ 0x00 ∷ 0x00 ∷ 0x00 ∷ 0x00 ∷ 0x2A ∷ 0x00 ∷ 0x00 ∷ 0x00 ∷ 0x07
     ∷ 0x00 ∷ 0x00 ∷ 0x03 ∷ 0xE6 ∷ 0x00 ∷ 0x00 ∷ 0x00 ∷ 0x00 ∷ 0x00 ∷ 0x86 ∷ 0x95 ∷ 0x20
@@ -156,33 +169,46 @@ P6 =
     (ntpAge (wrapped .ntp) 0xFFFFFFFF00000000 ≡ seconds 2)
     × (delay 0xFFFFFFFF00000000 0x00004000 ≡ seconds 1 + 2 ^ 30)
     × (expanded 0xFFFFFFFF00000000 0x00004000 ≡ 0x40000000)
-    × (answered (opened opening .table) (Call.report (beforeWrap 0x00004000) wrapped) .number ≡ 0)
+    × (numberAt wrapped (beforeWrap 0x00004000) ≡ 0)
 
 -- as P6 with presented 0: 17
 abbrev pub P7 : Type 0
-P7 = answered (opened opening .table) (Call.report (beforeWrap 0) wrapped) .number ≡ 17
+P7 = numberAt wrapped (beforeWrap 0) ≡ 17
+
+-- P1 with another received time
+abbrev pub receivedAt : ℕ → Record
+receivedAt received = member 10 received 8910000 0x03E78000
 
 -- received 970 s passes 15, one unit earlier is refused; received N passes, N plus one unit is refused
 abbrev pub P8 : Type 0
 P8 =
     (isFar (reading .ntp) (seconds 970) ≡ false)
-    × (isFar (reading .ntp) (seconds 970 - 1) ≡ true)
+    × (numberAt reading (receivedAt (seconds 970 - 1)) ≡ 15)
     × (isFar (reading .ntp) (reading .ntp) ≡ false)
-    × (isFar (reading .ntp) (reading .ntp + 1) ≡ true)
+    × (numberAt reading (receivedAt (reading .ntp + 1)) ≡ 15)
+
+-- P1 with another RTP time
+abbrev pub rtpAt : ℕ → Record
+rtpAt rtp = member 10 (seconds 999) rtp 0x03E78000
 
 -- RTP 3,600,000 passes 16; 3,599,999 and 9,000,001 are refused
 abbrev pub P9 : Type 0
 P9 =
     (isAged (opening .rate) (reading .rtp) 3600000 ≡ false)
-    × (isAged (opening .rate) (reading .rtp) 3599999 ≡ true)
-    × (isAged (opening .rate) (reading .rtp) 9000001 ≡ true)
+    × (numberAt reading (rtpAt 3600000) ≡ 0)
+    × (numberAt reading (rtpAt 3599999) ≡ 16)
+    × (numberAt reading (rtpAt 9000001) ≡ 16)
+
+-- P1 with another presented time
+abbrev pub presentedAt : ℕ → Record
+presentedAt presented = member 10 (seconds 999) 8910000 presented
 
 -- received 999 s: presented 04050000 (30 s) passes, 04050001 gives 17
 abbrev pub P10 : Type 0
 P10 =
     (isBadlyPresented (seconds 999) 0x04050000 ≡ false)
-    × (answered (opened opening .table) (Call.report (member 10 (seconds 999) 8910000 0x04050000) reading) .number ≡ 0)
-    × (answered (opened opening .table) (Call.report (member 10 (seconds 999) 8910000 0x04050001) reading) .number ≡ 17)
+    × (numberAt reading (presentedAt 0x04050000) ≡ 0)
+    × (numberAt reading (presentedAt 0x04050001) ≡ 17)
 
 -- all of them
 unfoldable pub papers : List (Type 0)

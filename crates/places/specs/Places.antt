@@ -3,9 +3,13 @@ use Prim.Native.Nat.{ℕ, zero, suc, _+_, _/_, _%_}
 use mathlib.Core.Bool.{Bool, not, cond}
 use lib.Dec.{eqb}
 
+-- whether the first place is free
+abbrev pub isFree : ℕ → Bool
+isFree word = eqb (word % 2) 0
+
 -- whether a place is held
 unfoldable pub isHeld : ℕ → ℕ → Bool
-isHeld zero word = not (eqb (word % 2) 0)
+isHeld zero word = not (isFree word)
 isHeld (suc place) word = isHeld place (word / 2)
 
 -- how many of the first k places are held
@@ -16,4 +20,4 @@ heldIn (suc k) word = word % 2 + heldIn k (word / 2)
 -- the lowest free place of the first k, or k where none is free
 unfoldable pub lowestFree : ℕ → ℕ → ℕ
 lowestFree zero word = 0
-lowestFree (suc k) word = cond (eqb (word % 2) 0) 0 (suc (lowestFree k (word / 2)))
+lowestFree (suc k) word = cond (isFree word) 0 (suc (lowestFree k (word / 2)))

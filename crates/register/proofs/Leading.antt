@@ -57,48 +57,48 @@ precedesAll-trans late a b (row ∷ rows) e h =
 
 -- a second row that passes only where the first does is never the first kept
 first-skip :
-    (arrival : Bool) (n : ℕ) (test : Record → Bool) (a b : Record) (rows : Rows) → (test b ≡ true → test a ≡ true) →
-    firstOf arrival n (keep test (a ∷ b ∷ rows)) ≡ firstOf arrival n (keep test (a ∷ rows))
+    (n : ℕ) (test : Record → Bool) (a b : Record) (rows : Rows) → (test b ≡ true → test a ≡ true) →
+    firstOf n (keep test (a ∷ b ∷ rows)) ≡ firstOf n (keep test (a ∷ rows))
 unfolding keep
-first-skip arrival n test a b rows implies = go (test a) refl (test b) refl
+first-skip n test a b rows implies = go (test a) refl (test b) refl
   where
     go :
         (s : Bool) → test a ≡ s → (t : Bool) → test b ≡ t →
-        firstOf arrival n (keep test (a ∷ b ∷ rows)) ≡ firstOf arrival n (keep test (a ∷ rows))
+        firstOf n (keep test (a ∷ b ∷ rows)) ≡ firstOf n (keep test (a ∷ rows))
     go true p t q = rw p refl
     go false p true q = absurd (false≢true (sym p ∙ implies q))
     go false p false q = rw (p, q) refl
 
 -- the first row, in order, of those that precede all
-abbrev firstOfAll : (Record → ℤ) → Bool → ℕ → Rows → Choice
-firstOfAll late arrival n rows = firstOf arrival n (keep (λ row. precedesAll late row rows) rows)
+abbrev firstOfAll : (Record → ℤ) → ℕ → Rows → Choice
+firstOfAll late n rows = firstOf n (keep (λ row. precedesAll late row rows) rows)
 
 first-of-one :
-    (late : Record → ℤ) (arrival : Bool) (n : ℕ) (a : Record) →
-    firstOfAll late arrival n (a ∷ []) ≡ targetOf arrival a n
+    (late : Record → ℤ) (n : ℕ) (a : Record) →
+    firstOfAll late n (a ∷ []) ≡ targetOf a n
 unfolding keep precedesAll
-first-of-one late arrival n a = rw (precedes-refl late a) refl
+first-of-one late n a = rw (precedes-refl late a) refl
 
 first-of-preceded :
-    (late : Record → ℤ) (arrival : Bool) (n : ℕ) (a b : Record) (rows : Rows) → precedes late a b ≡ true →
-    firstOfAll late arrival n (a ∷ b ∷ rows) ≡ firstOfAll late arrival n (a ∷ rows)
+    (late : Record → ℤ) (n : ℕ) (a b : Record) (rows : Rows) → precedes late a b ≡ true →
+    firstOfAll late n (a ∷ b ∷ rows) ≡ firstOfAll late n (a ∷ rows)
 unfolding precedesAll
-first-of-preceded late arrival n a b rows e =
-    ap (firstOf arrival n)
+first-of-preceded late n a b rows e =
+    ap (firstOf n)
     (keep-cong (λ row. precedesAll late row (a ∷ b ∷ rows)) (λ row. precedesAll late row (a ∷ rows)) (a ∷ b ∷ rows)
     (precedesAll-skip late a b rows e))
-    ∙ first-skip arrival n (λ row. precedesAll late row (a ∷ rows)) a b rows
+    ∙ first-skip n (λ row. precedesAll late row (a ∷ rows)) a b rows
     (λ h.
     rw (precedes-refl late a)
     (precedesAll-trans late a b rows e
     (and-eq-true-iff (precedes late b a) (precedesAll late b rows) .0 h .1)))
 
 first-of-preceding :
-    (late : Record → ℤ) (arrival : Bool) (n : ℕ) (a b : Record) (rows : Rows) → precedes late a b ≡ false →
-    firstOfAll late arrival n (a ∷ b ∷ rows) ≡ firstOfAll late arrival n (b ∷ rows)
+    (late : Record → ℤ) (n : ℕ) (a b : Record) (rows : Rows) → precedes late a b ≡ false →
+    firstOfAll late n (a ∷ b ∷ rows) ≡ firstOfAll late n (b ∷ rows)
 unfolding precedesAll
-first-of-preceding late arrival n a b rows e =
-    ap (firstOf arrival n)
+first-of-preceding late n a b rows e =
+    ap (firstOf n)
     (keep-no (λ row. precedesAll late row (a ∷ b ∷ rows)) a (b ∷ rows) (rw (e, precedes-refl late a) refl)
     ∙ keep-cong (λ row. precedesAll late row (a ∷ b ∷ rows)) (λ row. precedesAll late row (b ∷ rows)) (b ∷ rows)
     (precedesAll-drop late a b rows (precedes-total late a b e)))
@@ -112,25 +112,25 @@ unfolding leader
 leader-next late a b rows t e = ap (λ (t : Bool). leader late (cond t a b) rows) e
 
 chosen-step :
-    (late : Record → ℤ) (arrival : Bool) (n : ℕ) (a b : Record) (rows : Rows) →
-    ((c : Record) → firstOfAll late arrival n (c ∷ rows) ≡ targetOf arrival (leader late c rows) n) →
-    firstOfAll late arrival n (a ∷ b ∷ rows) ≡ targetOf arrival (leader late a (b ∷ rows)) n
-chosen-step late arrival n a b rows rest = go (precedes late a b) refl
+    (late : Record → ℤ) (n : ℕ) (a b : Record) (rows : Rows) →
+    ((c : Record) → firstOfAll late n (c ∷ rows) ≡ targetOf (leader late c rows) n) →
+    firstOfAll late n (a ∷ b ∷ rows) ≡ targetOf (leader late a (b ∷ rows)) n
+chosen-step late n a b rows rest = go (precedes late a b) refl
   where
     go :
         (t : Bool) → precedes late a b ≡ t →
-        firstOfAll late arrival n (a ∷ b ∷ rows) ≡ targetOf arrival (leader late a (b ∷ rows)) n
-    go true e = first-of-preceded late arrival n a b rows e ∙ rw (leader-next late a b rows true e) (rest a)
-    go false e = first-of-preceding late arrival n a b rows e ∙ rw (leader-next late a b rows false e) (rest b)
+        firstOfAll late n (a ∷ b ∷ rows) ≡ targetOf (leader late a (b ∷ rows)) n
+    go true e = first-of-preceded late n a b rows e ∙ rw (leader-next late a b rows true e) (rest a)
+    go false e = first-of-preceding late n a b rows e ∙ rw (leader-next late a b rows false e) (rest b)
 
 pub leader-chosen :
-    (late : Record → ℤ) (arrival : Bool) (n : ℕ) (a : Record) (rows : Rows) →
-    firstOf arrival n (keep (λ row. precedesAll late row (a ∷ rows)) (a ∷ rows))
-    ≡ targetOf arrival (leader late a rows) n
+    (late : Record → ℤ) (n : ℕ) (a : Record) (rows : Rows) →
+    firstOf n (keep (λ row. precedesAll late row (a ∷ rows)) (a ∷ rows))
+    ≡ targetOf (leader late a rows) n
 unfolding leader
-leader-chosen late arrival n a [] = first-of-one late arrival n a
-leader-chosen late arrival n a (b ∷ rows) =
-    chosen-step late arrival n a b rows (λ c. leader-chosen late arrival n c rows)
+leader-chosen late n a [] = first-of-one late n a
+leader-chosen late n a (b ∷ rows) =
+    chosen-step late n a b rows (λ c. leader-chosen late n c rows)
 
 -- ---- the leading row is one of the rows, and of greatest lateness
 

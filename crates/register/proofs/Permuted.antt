@@ -13,7 +13,6 @@ use Rattle.origin.specs.declared.Origin.{Origin}
 use Rattle.origin.specs.Origins.{sameOrigin}
 use Rattle.register.specs.declared.Record.{Record}
 use Rattle.register.specs.declared.Reading.{Reading}
-use Rattle.register.specs.declared.Choice.{Choice}
 use Rattle.register.specs.Register.{presents, Opening, Rows, Call, keep, some, hasNumber, isHeldElsewhere, hasNoRoom, renewed, reportChecks, farewellChecks, answer, freshAt, accepted, after}
 use Rattle.register.specs.Choosing.{fresh, isArrival, counted, latenessOf, precedes, precedesAll, firstOf, choice}
 use Rattle.register.specs.Promise.{Unique}
@@ -259,19 +258,12 @@ unique-counted o at rows u =
     freshOnes
     (unique-keep presents (fresh o at rows) freshOnes)
 
--- choosing from counted rows
-abbrev chosenOf : Opening → Reading → Bool → Rows → Choice
-chosenOf o at arrival rows = firstOf arrival (length rows) (first (latenessOf o at arrival) rows)
-
 pub choice-permuted :
     (o : Opening) (at : Reading) {rows rows′ : Rows} → List·Permᴰ rows rows′ → Unique rows →
     choice o at rows ≡ choice o at rows′
 unfolding choice
 choice-permuted o at {rows} {rows′} d u =
     let among : List·Permᴰ (counted o at rows) (counted o at rows′) = counted-permuted o at d in
-    let late : _ = latenessOf o at (isArrival o at rows) in
-    ap (λ (n : ℕ). firstOf (isArrival o at rows) n (first late (counted o at rows))) (length-permuted among)
-    ∙ ap
-    (firstOf (isArrival o at rows) (length (counted o at rows′)))
-    (first-permuted late among (unique-counted o at rows u))
-    ∙ ap (λ (t : Bool). chosenOf o at t (counted o at rows′)) (arrival-permuted o at d)
+    let late : Record → ℤ = latenessOf o at in
+    ap (λ (n : ℕ). firstOf n (first late (counted o at rows))) (length-permuted among)
+    ∙ ap (firstOf (length (counted o at rows′))) (first-permuted late among (unique-counted o at rows u))

@@ -15,7 +15,7 @@ use Rattle.register.specs.declared.Record.{Record}
 use Rattle.register.specs.declared.Reading.{Reading}
 use Rattle.register.specs.declared.Choice.{Choice}
 use Rattle.register.specs.Register.{presents, Opening, Rows, keep, some, freshAt}
-use Rattle.register.specs.Choosing.{fresh, isArrival, counted, delayOf, latenessOf, precedesAll, targetOf, firstOf, choice, delayBetween, targetLateness, moment}
+use Rattle.register.specs.Choosing.{fresh, isArrival, counted, latenessOf, precedesAll, targetOf, firstOf, choice, delayBetween, targetLateness, moment}
 use Rattle.register.specs.Leader.{leader}
 use Rattle.register.specs.Promise.{Promised}
 use Rattle.register.proofs.Rows.{none-kept, kept-member}
@@ -39,20 +39,16 @@ pub fresh-none-counted : (o : Opening) (at : Reading) (rows : Rows) → fresh o 
 unfolding keep some
 fresh-none-counted o at rows e = rw e refl
 
--- a counted row is one of the rows, and out of arrival mode its report has P 1
+-- a counted row is one of the rows
 counted-member :
-    (o : Opening) (at : Reading) (rows : Rows) (row : Record) → List·Memᴰ row (counted o at rows) →
-    List·Memᴰ row rows × (isArrival o at rows ≡ false → presents row ≡ true)
+    (o : Opening) (at : Reading) (rows : Rows) (row : Record) → List·Memᴰ row (counted o at rows) → List·Memᴰ row rows
 counted-member o at rows row member = go (isArrival o at rows) refl
   where
-    go :
-        (t : Bool) → isArrival o at rows ≡ t →
-        List·Memᴰ row rows × (isArrival o at rows ≡ false → presents row ≡ true)
-    go true e =
-        (kept-member (freshAt o at) row rows (rw e at member) .1, λ h. absurd (true≢false (sym e ∙ h)))
+    go : (t : Bool) → isArrival o at rows ≡ t → List·Memᴰ row rows
+    go true e = kept-member (freshAt o at) row rows (rw e at member) .1
     go false e =
         let kept : _ = kept-member presents row (fresh o at rows) (rw e at member) in
-        (kept-member (freshAt o at) row rows (kept .1) .1, λ h. kept .0)
+        kept-member (freshAt o at) row rows (kept .1) .1
 
 -- ---- the answer's lateness
 
@@ -69,15 +65,15 @@ delay-again received presented small =
     let most : _ = delay-bound received presented in
     rw (expanded-by-delay received presented) (omega arith)
 
--- in arrival mode presented is 0; otherwise check 17 let no expanded presentation of 0 pass
+-- with P 0 presented is 0; otherwise check 17 let no expanded presentation of 0 pass
 delay-answered :
-    (o : Opening) (arrival : Bool) (row : Record) → SoundRow o row → (arrival ≡ false → presents row ≡ true) →
-    delayBetween (row .report .received) (cond arrival 0 (expanded (row .report .received) (row .report .presented)))
-    ≡ delayOf arrival row
-delay-answered o true row sound presented = refl
-delay-answered o false row sound presented =
+    (o : Opening) (row : Record) → SoundRow o row → (p : Bool) → presents row ≡ p →
+    delayBetween (row .report .received) (cond p (expanded (row .report .received) (row .report .presented)) 0)
+    ≡ cond p (delay (row .report .received) (row .report .presented)) 0
+delay-answered o row sound false e = refl
+delay-answered o row sound true e =
     let passed : isBadlyPresented (row .report .received) (row .report .presented) ≡ false =
-    rw (presented refl) at (sound .presented) in
+    rw e at (sound .presented) in
     let present : eqb (expanded (row .report .received) (row .report .presented)) 0 ≡ false =
     or-false (ltb (30 * 2 ^ 32) (delay (row .report .received) (row .report .presented)))
     (eqb (expanded (row .report .received) (row .report .presented)) 0) passed in
@@ -88,14 +84,14 @@ delay-answered o false row sound presented =
 choice-of :
     (o : Opening) (at : Reading) (rows those : Rows) → counted o at rows ≡ those →
     choice o at rows
-    ≡ firstOf (isArrival o at rows) (length those)
-    (keep (λ row. precedesAll (latenessOf o at (isArrival o at rows)) row those) those)
+    ≡ firstOf (length those)
+    (keep (λ row. precedesAll (latenessOf o at) row those) those)
 unfolding choice
 choice-of o at rows those e =
     ap
     (λ (those : Rows).
-    firstOf (isArrival o at rows) (length those)
-    (keep (λ row. precedesAll (latenessOf o at (isArrival o at rows)) row those) those))
+    firstOf (length those)
+    (keep (λ row. precedesAll (latenessOf o at) row those) those))
     e
 
 pub choice-none :
@@ -106,22 +102,22 @@ choice-none o at rows e = choice-of o at rows [] e
 pub choice-leading :
     (o : Opening) (at : Reading) (rows : Rows) (a : Record) (rest : Rows) → counted o at rows ≡ a ∷ rest →
     choice o at rows
-    ≡ targetOf (isArrival o at rows) (leader (latenessOf o at (isArrival o at rows)) a rest) (length (a ∷ rest))
+    ≡ targetOf (leader (latenessOf o at) a rest) (length (a ∷ rest))
 choice-leading o at rows a rest e =
     choice-of o at rows (a ∷ rest) e
-    ∙ leader-chosen (latenessOf o at (isArrival o at rows)) (isArrival o at rows) (length (a ∷ rest)) a rest
+    ∙ leader-chosen (latenessOf o at) (length (a ∷ rest)) a rest
 
 -- a counted row than which none is later, as a target
 promised-greatest :
     (o : Opening) (at : Reading) (rows : Rows) → Sound o rows → (row : Record) (n : ℕ) →
     List·Memᴰ row (counted o at rows) →
     ((other : Record) → List·Memᴰ other (counted o at rows) →
-    latenessOf o at (isArrival o at rows) other ≤ℤ latenessOf o at (isArrival o at rows) row) →
-    Promised o at rows (targetOf (isArrival o at rows) row n)
+    latenessOf o at other ≤ℤ latenessOf o at row) →
+    Promised o at rows (targetOf row n)
 unfolding Promised targetLateness
 promised-greatest o at rows sound row n member greatest =
     let belongs : _ = counted-member o at rows row member in
-    rw (delay-answered o (isArrival o at rows) row (sound row (belongs .0)) (belongs .1)) (
+    rw (delay-answered o row (sound row belongs) (presents row) refl) (
       λ other m k. ≤ℤ-shift (k *ℤ pos (2 ^ 32)) (greatest other m),
       λ late asks. least late (asks row member (pos 0)),
       (row, member, refl),
@@ -130,9 +126,9 @@ promised-greatest o at rows sound row n member greatest =
   where
     least :
         (late : ℤ) →
-        moment (latenessOf o at (isArrival o at rows) row) (pos 0) ≤ℤ moment late (pos 0) →
-        latenessOf o at (isArrival o at rows) row ≤ℤ late
-    least late h = rw (+ℤ-idr (latenessOf o at (isArrival o at rows) row), +ℤ-idr late) at h
+        moment (latenessOf o at row) (pos 0) ≤ℤ moment late (pos 0) →
+        latenessOf o at row ≤ℤ late
+    least late h = rw (+ℤ-idr (latenessOf o at row), +ℤ-idr late) at h
 
 pub choice-promised :
     (o : Opening) (at : Reading) (rows : Rows) → Sound o rows → Promised o at rows (choice o at rows)
@@ -142,7 +138,7 @@ choice-promised o at rows sound = go (counted o at rows) refl
     go : (those : Rows) → counted o at rows ≡ those → Promised o at rows (choice o at rows)
     go [] e = rw (choice-none o at rows e) (refl, counted-none-fresh o at rows e)
     go (a ∷ rest) e =
-        let late : Record → ℤ = latenessOf o at (isArrival o at rows) in
+        let late : Record → ℤ = latenessOf o at in
         rw (choice-leading o at rows a rest e)
         (promised-greatest o at rows sound (leader late a rest) (length (a ∷ rest))
         (subst (List·Memᴰ (leader late a rest)) (sym e) (leader-member late a rest))

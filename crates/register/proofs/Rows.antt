@@ -246,3 +246,14 @@ pub some-both : {A : Type 0} (s t : A → Bool) (xs : List A) → some (λ y. s 
 unfolding some keep
 some-both s t [] = refl
 some-both s t (x ∷ xs) = some-both-step s t x xs (s x) refl (some-both s t xs)
+
+-- ---- members
+
+pub member-permuted : {A : Type 0} {x : A} {xs ys : List A} → List·Permᴰ xs ys → List·Memᴰ x xs → List·Memᴰ x ys
+member-permuted List·Permᴰ·nil m = m
+member-permuted (List·Permᴰ·cons e d) (List·Memᴰ·head q) = List·Memᴰ·head (q ∙ e)
+member-permuted (List·Permᴰ·cons e d) (List·Memᴰ·tail m) = List·Memᴰ·tail (member-permuted d m)
+member-permuted (List·Permᴰ·swap e f) (List·Memᴰ·head q) = List·Memᴰ·tail (List·Memᴰ·head (q ∙ e))
+member-permuted (List·Permᴰ·swap e f) (List·Memᴰ·tail (List·Memᴰ·head q)) = List·Memᴰ·head (q ∙ f)
+member-permuted (List·Permᴰ·swap e f) (List·Memᴰ·tail (List·Memᴰ·tail m)) = List·Memᴰ·tail (List·Memᴰ·tail m)
+member-permuted (List·Permᴰ·trans d e) m = member-permuted e (member-permuted d m)

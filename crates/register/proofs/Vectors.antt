@@ -1,7 +1,6 @@
 -- The register at the papers' cases: P1 to P4, the twin of source 10 on a second port, and what a farewell and a sweep
 -- leave.
 use Prim.Native.Nat.{ℕ, _+_, _*_, _^_}
-use mathlib.Core.Bool.{true, false}
 use mathlib.Core.List.{List, [], _∷_}
 use mathlib.Core.Path.{_≡_, refl}
 use lib.IntN.{pos}
@@ -97,8 +96,8 @@ later units = record { ntp = seconds 1028 + units; rtp = 9000000 }
 
 cases :
     -- P1 and P2
-    (latenessOf opening reading false ten ≡ pos (45000 * 2 ^ 32))
-    × (latenessOf opening reading false twenty ≡ pos (67500 * 2 ^ 32))
+    (latenessOf opening reading ten ≡ pos (45000 * 2 ^ 32))
+    × (latenessOf opening reading twenty ≡ pos (67500 * 2 ^ 32))
     -- P3: 20 chosen, 2 counted
     × (answers opening [] both ≡ 0 ∷ 0 ∷ [])
     × (choice opening reading (afterAll opening [] both) ≡ target20)
@@ -107,7 +106,7 @@ cases :
     -- P 1 before P 0, and arrival mode: as late as its arrival, presented 0
     × (choice opening reading (ten ∷ silent ∷ []) ≡ target 10 (seconds 999) 8910000 (seconds 999 + 2 ^ 31) 1)
     × (choice opening reading (silent ∷ []) ≡ target 20 (seconds 998) 8820000 0 1)
-    × (latenessOf opening reading true silent ≡ pos 0)
+    × (latenessOf opening reading silent ≡ pos 0)
     -- the last accepted report stands
     × (after opening (ten ∷ twenty ∷ []) (Call.report tenLater reading) ≡ tenLater ∷ twenty ∷ [])
     -- twins: 14, and nothing changes

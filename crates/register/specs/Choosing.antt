@@ -29,17 +29,17 @@ isArrival o at rows = not (some presents (fresh o at rows))
 abbrev pub counted : Opening → Reading → Rows → Rows
 counted o at rows = cond (isArrival o at rows) (fresh o at rows) (keep presents (fresh o at rows))
 
--- a counted row's delay: 0 in arrival mode
-abbrev pub delayOf : Bool → Record → ℕ
-delayOf arrival row = cond arrival 0 (delay (row .report .received) (row .report .presented))
+-- a counted row's delay. A row with P 0 is counted in arrival mode alone, and its delay is 0.
+abbrev pub delayOf : Record → ℕ
+delayOf row = cond (presents row) (delay (row .report .received) (row .report .presented)) 0
 
-abbrev pub latenessOf : Opening → Reading → Bool → Record → ℤ
-latenessOf o at arrival row =
-    lateness (o .rate) (delayOf arrival row)
+abbrev pub latenessOf : Opening → Reading → Record → ℤ
+latenessOf o at row =
+    lateness (o .rate) (delayOf row)
     (ntpAge (at .ntp) (row .report .received))
     (rtpAge (at .rtp) (row .report .rtp))
 
--- whether a row is another or goes before it: the greater lateness, and among equals the lower number
+-- whether a goes before b or is level with it: a greater lateness, or an equal one and a number no higher
 abbrev pub precedes : (Record → ℤ) → Record → Record → Bool
 precedes late a b = ltZ (late b) (late a) || (leZ (late b) (late a) && leb (a .source) (b .source))
 
@@ -52,12 +52,12 @@ precedesAll late a (b ∷ rows) = precedes late a b && precedesAll late a rows
 -- distinct, and none where nothing is counted
 abbrev pub chosen : Opening → Reading → Rows → Rows
 chosen o at rows =
-    keep (λ row. precedesAll (latenessOf o at (isArrival o at rows)) row (counted o at rows)) (counted o at rows)
+    keep (λ row. precedesAll (latenessOf o at) row (counted o at rows)) (counted o at rows)
 
 -- the member's number, the settings fields from its own report (presented expanded, or 0 in arrival mode), and how many
 -- were counted
-abbrev pub targetOf : Bool → Record → ℕ → Choice
-targetOf arrival row count =
+abbrev pub targetOf : Record → ℕ → Choice
+targetOf row count =
     Choice.Target
     (record {
       source = row .source;
@@ -65,17 +65,17 @@ targetOf arrival row count =
       media = row .report .media;
       received = row .report .received;
       rtp = row .report .rtp;
-      presented = cond arrival 0 (expanded (row .report .received) (row .report .presented));
+      presented = cond (presents row) (expanded (row .report .received) (row .report .presented)) 0;
       counted = count;
     })
 
 -- 20 where nothing is counted
-abbrev pub firstOf : Bool → ℕ → Rows → Choice
-firstOf arrival count [] = Choice.Refused 20
-firstOf arrival count (row ∷ rows) = targetOf arrival row count
+abbrev pub firstOf : ℕ → Rows → Choice
+firstOf count [] = Choice.Refused 20
+firstOf count (row ∷ rows) = targetOf row count
 
 unfoldable pub choice : Opening → Reading → Rows → Choice
-choice o at rows = firstOf (isArrival o at rows) (length (counted o at rows)) (chosen o at rows)
+choice o at rows = firstOf (length (counted o at rows)) (chosen o at rows)
 
 -- ---- a target as a lateness
 
@@ -83,12 +83,14 @@ choice o at rows = firstOf (isArrival o at rows) (length (counted o at rows)) (c
 abbrev pub delayBetween : ℕ → ℕ → ℕ
 delayBetween received presented = cond (eqb presented 0) 0 (ntpAge presented received)
 
+-- the lateness of three times, a settings packet's
+abbrev pub timesLateness : Opening → Reading → (received rtp presented : ℕ) → ℤ
+timesLateness o at received rtp presented =
+    lateness (o .rate) (delayBetween received presented) (ntpAge (at .ntp) received) (rtpAge (at .rtp) rtp)
+
 -- document 01's lateness of our target
 unfoldable pub targetLateness : Opening → Reading → Target → ℤ
-targetLateness o at x =
-    lateness (o .rate) (delayBetween (x .received) (x .presented))
-    (ntpAge (at .ntp) (x .received))
-    (rtpAge (at .rtp) (x .rtp))
+targetLateness o at x = timesLateness o at (x .received) (x .rtp) (x .presented)
 
 -- under a lateness, when the sample whose RTP time is k past R is presented, in units after N
 abbrev pub moment : ℤ → ℤ → ℤ

@@ -9,13 +9,13 @@ use Rattle.register.specs.declared.Record.{Record}
 use Rattle.register.specs.declared.Reading.{Reading}
 use Rattle.register.specs.declared.Choice.{Choice}
 use Rattle.register.specs.Register.{Opening, Rows, Call, keep, hasNumber}
-use Rattle.register.specs.Choosing.{fresh, isArrival, counted, latenessOf, targetLateness, moment}
+use Rattle.register.specs.Choosing.{fresh, counted, latenessOf, targetLateness, moment}
 
 -- no number has two rows
 abbrev pub Unique : Rows → Type 0
 Unique rows = (source : ℕ) → length (keep (hasNumber source) rows) ≤ 1
 
--- what the type of a call's received time says: the only range that demand 3 needs
+-- a report's received time has 64 bits: the only range that demand 3 needs
 abbrev pub InRange : Call → Type 0
 InRange (Call.report x at) = x .report .received < 2 ^ 64
 InRange (Call.farewell source origin) = Unit
@@ -29,12 +29,12 @@ AllInRange (call ∷ calls) = InRange call × AllInRange calls
 abbrev pub AsksNoneEarlier : Opening → Reading → Rows → ℤ → Type 0
 AsksNoneEarlier o at rows late =
     (row : Record) → List·Memᴰ row (counted o at rows) → (k : ℤ) →
-    moment (latenessOf o at (isArrival o at rows) row) k ≤ℤ moment late k
+    moment (latenessOf o at row) k ≤ℤ moment late k
 
 -- the lateness of some counted row's own report
 abbrev pub IsReported : Opening → Reading → Rows → ℤ → Type 0
 IsReported o at rows late =
-    (row : Record) × List·Memᴰ row (counted o at rows) × (latenessOf o at (isArrival o at rows) row ≡ late)
+    (row : Record) × List·Memᴰ row (counted o at rows) × (latenessOf o at row ≡ late)
 
 -- a target asks no counted row for a sample earlier, any other such lateness is at least as late, it is that of some
 -- counted row's own report, and it is withheld, with 20, exactly when no row is fresh

@@ -21,7 +21,7 @@ pub record Opening : Type 0 where
 abbrev pub Rows : Type 0
 Rows = List Record
 
--- a farewell is a BYE source
+-- a farewell is a BYE source: its number and its origin
 pub data Call : Type 0 where
   report : Record → Reading → Call
   farewell : ℕ → Origin → Call
@@ -61,11 +61,15 @@ renewed (row ∷ rows) x = cond (hasNumber (x .source) row) (x ∷ rows) (row �
 
 -- ---- the three calls: a refusal's number, or 0 that there is none
 
+-- 13: another group or media source
+abbrev pub isOtherStream : Opening → (group media : ℕ) → Bool
+isOtherStream o group media = not (eqb group (o .group) && eqb media (o .media))
+
 -- checks 13 to 18 in order: the first that applies is the answer. Check 14 applies where the number is held elsewhere, 18
 -- where there is no room.
 unfoldable pub reportChecks : Opening → Record → Reading → (elsewhere noRoom : Bool) → ℕ
 reportChecks o x at elsewhere noRoom =
-    cond (not (eqb (x .report .group) (o .group) && eqb (x .report .media) (o .media))) 13
+    cond (isOtherStream o (x .report .group) (x .report .media)) 13
     (cond elsewhere 14
     (cond (isFar (at .ntp) (x .report .received)) 15
     (cond (isAged (o .rate) (at .rtp) (x .report .rtp)) 16
@@ -102,9 +106,12 @@ accepted o rows (Call.report x at) = renewed rows x
 accepted o rows (Call.farewell source origin) = keep (λ row. not (hasNumber source row)) rows
 accepted o rows (Call.sweep at) = keep (freshAt o at) rows
 
--- refused, a call changes nothing
+-- refused, whatever the number, a call changes nothing
+abbrev pub refused : Rows → ℕ → Call → Rows
+refused rows number call = rows
+
 unfoldable pub after : Opening → Rows → Call → Rows
-after o rows call = cond (eqb (answer o rows call) 0) (accepted o rows call) rows
+after o rows call = cond (eqb (answer o rows call) 0) (accepted o rows call) (refused rows (answer o rows call) call)
 
 -- ---- any list of calls: every answer, and the rows afterwards
 

@@ -1,8 +1,8 @@
 // What a member table and the plain register are told, and what choosing answers.
 use origin::Origin;
 
-// A report as it stands in a row: the fields of a report item but its sender, who is the record's source. P is 1 where
-// `p` is not 0. No field is a bool, so that a host in C can hold any bytes here and still be answered.
+// A report as it stands in a row: the fields of a report item but its sender, who is the record's source. `p` is a
+// number so that a host in C need not vet it: any value but 0 is P 1.
 #[repr(C)]
 pub struct Standing {
     pub received: u64,

@@ -4,11 +4,11 @@ use Prim.Native.Nat.{ℕ, _+_, _-_, _*_, _^_, _≤_}
 use mathlib.Core.Bool.{Bool, true, false, not, cond, _&&_, and-eq-true-iff}
 use mathlib.Core.List.{[], _∷_}
 use mathlib.Core.Path.{_≡_, refl, sym, ap, _∙_}
-use lib.Dec.{leb}
+use lib.Dec.{leb, eqb}
 use lib.IntN.{ℤ}
 use lib.Signed.{leZ}
 use native.Mathlib.Omega.{arith}
-use borrow.Author.Tests.{eq-eqb, ne-eqb, not-true, ltb-false, leb-true, leb-false, le-leb, lt-leb}
+use borrow.Author.Tests.{not-true, ltb-false, leb-true, leb-false, le-leb, lt-leb}
 use Rattle.places.specs.Places.{heldIn}
 use Rattle.times.specs.Times.{ntpAge, rtpAge, isFar, isAged}
 use Rattle.register.specs.declared.Record.{Record}
@@ -20,7 +20,7 @@ use Rattle.register.specs.Leader.{leader}
 use Rattle.register.proofs.Order.{ltZ-not-leZ, leZ-subℕ, lateness-subℕ}
 use Rattle.register.proofs.Rows.{keep-yes, keep-no}
 use Rattle.table.specs.Members.{rowsAt, keepWord}
-use Rattle.table.specs.Choose.{atRate, freshWord, presentingWord, led, choiceAmong}
+use Rattle.table.specs.Choose.{atRate, freshWord, presentingWord, arrives, countedWord, led, choiceIn, choiceAmong}
 use Rattle.table.specs.Lateness.{biased, biasedLate}
 use Rattle.table.proofs.Seats.{rows-keepWord}
 use Rattle.table.proofs.Leading.{leader-next}
@@ -67,13 +67,13 @@ fresh-age rate at row e =
     ltb-false (30 * 2 ^ 32) (ntpAge (at .ntp) (row .report .received)) (not-true far near)
 
 leZ-biased :
-    (rate : ℕ) (at : Reading) (arrival : Bool) (a b : Record) →
+    (rate : ℕ) (at : Reading) (a b : Record) →
     freshAt (atRate rate) at a ≡ true → freshAt (atRate rate) at b ≡ true →
-    leZ (latenessOf (atRate rate) at arrival a) (latenessOf (atRate rate) at arrival b)
-    ≡ leZ (biasedLate rate at arrival a) (biasedLate rate at arrival b)
-leZ-biased rate at arrival a b p q =
-    leZ-lateness rate (delayOf arrival a) (ntpAge (at .ntp) (a .report .received)) (rtpAge (at .rtp) (a .report .rtp))
-    (delayOf arrival b)
+    leZ (latenessOf (atRate rate) at a) (latenessOf (atRate rate) at b)
+    ≡ leZ (biasedLate rate at a) (biasedLate rate at b)
+leZ-biased rate at a b p q =
+    leZ-lateness rate (delayOf a) (ntpAge (at .ntp) (a .report .received)) (rtpAge (at .rtp) (a .report .rtp))
+    (delayOf b)
     (ntpAge (at .ntp) (b .report .received))
     (rtpAge (at .rtp) (b .report .rtp))
     (fresh-age rate at a p)
@@ -117,66 +117,67 @@ leader-alike test f g alike (b ∷ rows) a p =
     leader-alike-step test f g alike a b rows p (leader-alike test f g alike rows) (test b) refl
 
 led-alike-step :
-    (test : Record → Bool) (f g : Record → ℤ) → Alike test f g → (arrival : Bool) (n : ℕ) (row : Record) (rows : Rows) →
-    led f arrival n (keep test rows) ≡ led g arrival n (keep test rows) →
-    (t : Bool) → test row ≡ t → led f arrival n (keep test (row ∷ rows)) ≡ led g arrival n (keep test (row ∷ rows))
+    (test : Record → Bool) (f g : Record → ℤ) → Alike test f g → (n : ℕ) (row : Record) (rows : Rows) →
+    led f n (keep test rows) ≡ led g n (keep test rows) →
+    (t : Bool) → test row ≡ t → led f n (keep test (row ∷ rows)) ≡ led g n (keep test (row ∷ rows))
 unfolding led
-led-alike-step test f g alike arrival n row rows same true p =
+led-alike-step test f g alike n row rows same true p =
     rw (keep-yes test row rows p)
-    (ap (λ (x : Record). targetOf arrival x n) (leader-alike test f g alike rows row p))
-led-alike-step test f g alike arrival n row rows same false p = rw (keep-no test row rows p) same
+    (ap (λ (x : Record). targetOf x n) (leader-alike test f g alike rows row p))
+led-alike-step test f g alike n row rows same false p = rw (keep-no test row rows p) same
 
 led-alike :
-    (test : Record → Bool) (f g : Record → ℤ) → Alike test f g → (arrival : Bool) (n : ℕ) (rows : Rows) →
-    led f arrival n (keep test rows) ≡ led g arrival n (keep test rows)
+    (test : Record → Bool) (f g : Record → ℤ) → Alike test f g → (n : ℕ) (rows : Rows) →
+    led f n (keep test rows) ≡ led g n (keep test rows)
 unfolding led keep
-led-alike test f g alike arrival n [] = refl
-led-alike test f g alike arrival n (row ∷ rows) =
-    led-alike-step test f g alike arrival n row rows (led-alike test f g alike arrival n rows) (test row) refl
+led-alike test f g alike n [] = refl
+led-alike test f g alike n (row ∷ rows) =
+    led-alike-step test f g alike n row rows (led-alike test f g alike n rows) (test row) refl
 
 -- ---- choosing
 
 -- among the members that a kept word marks, where the test lets only fresh ones pass
 led-biased :
-    (rate : ℕ) (at : Reading) (arrival : Bool) (test : Record → Bool) (n word : ℕ) (ms : Rows) →
+    (rate : ℕ) (at : Reading) (test : Record → Bool) (n word : ℕ) (ms : Rows) →
     ((row : Record) → test row ≡ true → freshAt (atRate rate) at row ≡ true) →
-    led (biasedLate rate at arrival) arrival n (rowsAt (keepWord test word ms) ms)
-    ≡ led (latenessOf (atRate rate) at arrival) arrival n (rowsAt (keepWord test word ms) ms)
-led-biased rate at arrival test n word ms fresh =
+    led (biasedLate rate at) n (rowsAt (keepWord test word ms) ms)
+    ≡ led (latenessOf (atRate rate) at) n (rowsAt (keepWord test word ms) ms)
+led-biased rate at test n word ms fresh =
     rw (rows-keepWord test word ms)
     (sym
-    (led-alike test (latenessOf (atRate rate) at arrival) (biasedLate rate at arrival)
+    (led-alike test (latenessOf (atRate rate) at) (biasedLate rate at)
     (λ a b p q.
-    precedes-alike (latenessOf (atRate rate) at arrival) (biasedLate rate at arrival) a b
-    (leZ-biased rate at arrival a b (fresh a p) (fresh b q))
-    (leZ-biased rate at arrival b a (fresh b q) (fresh a p)))
-    arrival
+    precedes-alike (latenessOf (atRate rate) at) (biasedLate rate at) a b
+    (leZ-biased rate at a b (fresh a p) (fresh b q))
+    (leZ-biased rate at b a (fresh b q) (fresh a p)))
     n
     (rowsAt word ms)))
 
--- a choice of the code, in either mode
-pub choice-in-arrival :
-    (rate : ℕ) (at : Reading) (held : ℕ) (ms : Rows) (fresh presenting : ℕ) →
-    fresh ≡ freshWord rate at held ms → presenting ≡ presentingWord rate at held ms → presenting ≡ 0 →
-    (x : Choice) → x ≡ led (biasedLate rate at true) true (heldIn 64 fresh) (rowsAt fresh ms) →
-    x ≡ choiceAmong rate at held ms
-unfolding choiceAmong
-choice-in-arrival rate at held ms fresh presenting p q none x e =
-    e
-    ∙ rw (p, eq-eqb (presentingWord rate at held ms) 0 (sym q ∙ none))
-    (led-biased rate at true (freshAt (atRate rate) at) (heldIn 64 (freshWord rate at held ms)) held ms (λ row s. s))
+-- the counted word, from the two words that the code holds
+pub counted-by :
+    {fresh presenting fresh′ presenting′ : ℕ} → fresh ≡ fresh′ → presenting ≡ presenting′ →
+    cond (eqb presenting 0) fresh presenting ≡ cond (eqb presenting′ 0) fresh′ presenting′
+counted-by e f = rw (e, f) refl
 
-pub choice-in-presentation :
-    (rate : ℕ) (at : Reading) (held : ℕ) (ms : Rows) (presenting : ℕ) →
-    presenting ≡ presentingWord rate at held ms → (presenting ≡ 0 → ⊥) →
-    (x : Choice) → x ≡ led (biasedLate rate at false) false (heldIn 64 presenting) (rowsAt presenting ms) →
+-- a choice of the code: the members counted are fresh in either mode
+pub choice-counted :
+    (rate : ℕ) (at : Reading) (held : ℕ) (ms : Rows) (word : ℕ) → word ≡ countedWord rate at held ms →
+    (x : Choice) → x ≡ led (biasedLate rate at) (heldIn 64 word) (rowsAt word ms) →
     x ≡ choiceAmong rate at held ms
 unfolding choiceAmong
-choice-in-presentation rate at held ms presenting q some x e =
-    e
-    ∙ rw (q, ne-eqb (presentingWord rate at held ms) 0 (λ z. some (q ∙ z)))
-    (led-biased rate at false (λ m. freshAt (atRate rate) at m && presents m)
-    (heldIn 64 (presentingWord rate at held ms))
-    held
-    ms
-    (λ row s. and-eq-true-iff (freshAt (atRate rate) at row) (presents row) .0 s .0))
+choice-counted rate at held ms word w x e = e ∙ rw w (go (arrives rate at held ms) refl)
+  where
+    go :
+        (b : Bool) → arrives rate at held ms ≡ b →
+        led (biasedLate rate at) (heldIn 64 (countedWord rate at held ms)) (rowsAt (countedWord rate at held ms) ms)
+        ≡ choiceIn rate at (countedWord rate at held ms) ms
+    go true p =
+        rw p
+        (led-biased rate at (freshAt (atRate rate) at) (heldIn 64 (freshWord rate at held ms)) held ms (λ row s. s))
+    go false p =
+        rw p
+        (led-biased rate at (λ m. freshAt (atRate rate) at m && presents m)
+        (heldIn 64 (presentingWord rate at held ms))
+        held
+        ms
+        (λ row s. and-eq-true-iff (freshAt (atRate rate) at row) (presents row) .0 s .0))

@@ -18,7 +18,8 @@ use Rattle.register.specs.Choosing.{precedes, targetOf}
 use Rattle.register.specs.Leader.{leader}
 use Rattle.table.specs.declared.choose.Late.{Late}
 use Rattle.table.specs.declared.choose.Lead.{Lead}
-use Rattle.table.specs.Members.{isFree, rowsAt, nowhere}
+use Rattle.places.specs.Places.{isFree}
+use Rattle.table.specs.Members.{rowsAt, nowhere}
 use Rattle.table.specs.Choose.{led}
 use Rattle.table.specs.Lateness.{biased, biasedOf, biasedLate, inTwo, joined}
 use Rattle.table.specs.Lateness.{leadOf, keepsLead, leadNext, ledFrom, IsLeading}
@@ -114,28 +115,28 @@ lead-lost word a b c held same kept is =
 -- ---- a step of the walk
 
 -- what stands for the one that leads, if one does, is its row's
-abbrev pub StandsFor : ℕ → Reading → Bool → Rows → Lead → Type 0
-StandsFor rate at arrival ms a =
-    a .place < 64 → a ≡ leadOf rate at arrival (a .place) (getD ms (a .place) nowhere)
+abbrev pub StandsFor : ℕ → Reading → Rows → Lead → Type 0
+StandsFor rate at ms a =
+    a .place < 64 → a ≡ leadOf rate at (a .place) (getD ms (a .place) nowhere)
 
 keeps-precedes :
-    (rate : ℕ) (at : Reading) (arrival : Bool) (ms : Rows) (a : Lead) (i : ℕ) (row : Record) →
-    StandsFor rate at arrival ms a →
-    keepsLead a (leadOf rate at arrival i row)
-    ≡ (ltb (a .place) 64 && precedes (biasedLate rate at arrival) (getD ms (a .place) nowhere) row)
-keeps-precedes rate at arrival ms a i row stands = go (ltb (a .place) 64) refl
+    (rate : ℕ) (at : Reading) (ms : Rows) (a : Lead) (i : ℕ) (row : Record) →
+    StandsFor rate at ms a →
+    keepsLead a (leadOf rate at i row)
+    ≡ (ltb (a .place) 64 && precedes (biasedLate rate at) (getD ms (a .place) nowhere) row)
+keeps-precedes rate at ms a i row stands = go (ltb (a .place) 64) refl
   where
     go :
         (t : Bool) → ltb (a .place) 64 ≡ t →
-        keepsLead a (leadOf rate at arrival i row)
-        ≡ (ltb (a .place) 64 && precedes (biasedLate rate at arrival) (getD ms (a .place) nowhere) row)
+        keepsLead a (leadOf rate at i row)
+        ≡ (ltb (a .place) 64 && precedes (biasedLate rate at) (getD ms (a .place) nowhere) row)
     go true e =
         let here : _ = stands (ltb-true (a .place) 64 e) in
-        let late : joined (a .late) ≡ biasedOf rate at arrival (getD ms (a .place) nowhere) =
+        let late : joined (a .late) ≡ biasedOf rate at (getD ms (a .place) nowhere) =
         ap (λ (x : Lead). joined (x .late)) here
-        ∙ joined-in-two (biasedOf rate at arrival (getD ms (a .place) nowhere)) in
+        ∙ joined-in-two (biasedOf rate at (getD ms (a .place) nowhere)) in
         let source : a .source ≡ getD ms (a .place) nowhere .source = ap (λ (x : Lead). x .source) here in
-        rw (e, late, joined-in-two (biasedOf rate at arrival row), source) refl
+        rw (e, late, joined-in-two (biasedOf rate at row), source) refl
     go false e = rw e refl
 
 -- one row more
@@ -146,56 +147,56 @@ unfolding leader
 leader-next late a b rows t e = ap (λ (s : Bool). leader late (cond s a b) rows) e
 
 ledFrom-keeps :
-    (late : Record → ℤ) (arrival : Bool) (n : ℕ) (ms : Rows) (place : ℕ) (row : Record) (rows : Rows) →
+    (late : Record → ℤ) (n : ℕ) (ms : Rows) (place : ℕ) (row : Record) (rows : Rows) →
     (ltb place 64 && precedes late (getD ms place nowhere) row) ≡ true →
-    ledFrom late arrival n ms place (row ∷ rows) ≡ ledFrom late arrival n ms place rows
-ledFrom-keeps late arrival n ms place row rows e =
+    ledFrom late n ms place (row ∷ rows) ≡ ledFrom late n ms place rows
+ledFrom-keeps late n ms place row rows e =
     let both : _ = and-eq-true-iff (ltb place 64) (precedes late (getD ms place nowhere) row) .0 e in
     rw (both .0, leader-next late (getD ms place nowhere) row rows true (both .1)) refl
 
 ledFrom-takes :
-    (late : Record → ℤ) (arrival : Bool) (n : ℕ) (ms : Rows) (place i : ℕ) (rows : Rows) → i < 64 →
+    (late : Record → ℤ) (n : ℕ) (ms : Rows) (place i : ℕ) (rows : Rows) → i < 64 →
     (ltb place 64 && precedes late (getD ms place nowhere) (getD ms i nowhere)) ≡ false →
-    ledFrom late arrival n ms place (getD ms i nowhere ∷ rows) ≡ ledFrom late arrival n ms i rows
+    ledFrom late n ms place (getD ms i nowhere ∷ rows) ≡ ledFrom late n ms i rows
 unfolding led
-ledFrom-takes late arrival n ms place i rows h = go (ltb place 64) refl
+ledFrom-takes late n ms place i rows h = go (ltb place 64) refl
   where
     go :
         (t : Bool) → ltb place 64 ≡ t →
         (ltb place 64 && precedes late (getD ms place nowhere) (getD ms i nowhere)) ≡ false →
-        ledFrom late arrival n ms place (getD ms i nowhere ∷ rows) ≡ ledFrom late arrival n ms i rows
+        ledFrom late n ms place (getD ms i nowhere ∷ rows) ≡ ledFrom late n ms i rows
     go true p e =
         let lost : _ = leader-next late (getD ms place nowhere) (getD ms i nowhere) rows false (rw p at e) in
         rw (p, lost, lt-ltb i 64 h) refl
     go false p e = rw (p, lt-ltb i 64 h) refl
 
 -- after i places: what stands for the one that leads is its row's, and with the rows to come the choice is that of all
-pub record LedSoFar (rate : ℕ) (at : Reading) (arrival : Bool) (word : ℕ) (ms : Rows) (a : Lead) (rest i : ℕ) :
+pub record LedSoFar (rate : ℕ) (at : Reading) (word : ℕ) (ms : Rows) (a : Lead) (rest i : ℕ) :
     Type 0
   where
     pub part : a .late .part < 2 ^ 32
-    pub stands : StandsFor rate at arrival ms a
+    pub stands : StandsFor rate at ms a
     pub whole :
         (n : ℕ) →
-        ledFrom (biasedLate rate at arrival) arrival n ms (a .place) (rowsAt rest (drop i ms))
-        ≡ led (biasedLate rate at arrival) arrival n (rowsAt word ms)
+        ledFrom (biasedLate rate at) n ms (a .place) (rowsAt rest (drop i ms))
+        ≡ led (biasedLate rate at) n (rowsAt word ms)
 
 pub led-start :
-    {rate : ℕ} {at : Reading} {arrival : Bool} {word : ℕ} {ms : Rows} →
-    LedSoFar rate at arrival word ms (record { place = 64; late = record { whole = 0; part = 0 }; source = 0 }) word 0
+    {rate : ℕ} {at : Reading} {word : ℕ} {ms : Rows} →
+    LedSoFar rate at word ms (record { place = 64; late = record { whole = 0; part = 0 }; source = 0 }) word 0
 led-start = record { part = omega arith; stands = λ h. absurd (omega arith); whole = λ n. refl }
 
 pub led-step :
-    {rate : ℕ} {at : Reading} {arrival : Bool} {word : ℕ} {ms : Rows} {a : Lead} {rest i : ℕ} {next : Lead} →
-    i < 64 → i < length ms → LedSoFar rate at arrival word ms a rest i →
-    next ≡ leadNext rest a (leadOf rate at arrival i (getD ms i nowhere)) →
-    LedSoFar rate at arrival word ms next (rest / 2) (i + 1)
-led-step {rate} {at} {arrival} {word} {ms} {a} {rest} {i} {next} below within so e =
-    rw e (go (isFree rest) refl (keepsLead a (leadOf rate at arrival i (getD ms i nowhere))) refl)
+    {rate : ℕ} {at : Reading} {word : ℕ} {ms : Rows} {a : Lead} {rest i : ℕ} {next : Lead} →
+    i < 64 → i < length ms → LedSoFar rate at word ms a rest i →
+    next ≡ leadNext rest a (leadOf rate at i (getD ms i nowhere)) →
+    LedSoFar rate at word ms next (rest / 2) (i + 1)
+led-step {rate} {at} {word} {ms} {a} {rest} {i} {next} below within so e =
+    rw e (go (isFree rest) refl (keepsLead a (leadOf rate at i (getD ms i nowhere))) refl)
   where
     go :
-        (s : Bool) → isFree rest ≡ s → (t : Bool) → keepsLead a (leadOf rate at arrival i (getD ms i nowhere)) ≡ t →
-        LedSoFar rate at arrival word ms (leadNext rest a (leadOf rate at arrival i (getD ms i nowhere))) (rest / 2)
+        (s : Bool) → isFree rest ≡ s → (t : Bool) → keepsLead a (leadOf rate at i (getD ms i nowhere)) ≡ t →
+        LedSoFar rate at word ms (leadNext rest a (leadOf rate at i (getD ms i nowhere))) (rest / 2)
         (i + 1)
     go true p t q =
         rw p
@@ -204,11 +205,11 @@ led-step {rate} {at} {arrival} {word} {ms} {a} {rest} {i} {next} below within so
           stands = so .stands;
           whole =
               λ n.
-              sym (ap (ledFrom (biasedLate rate at arrival) arrival n ms (a .place)) (rows-free-at rest ms i within p))
+              sym (ap (ledFrom (biasedLate rate at) n ms (a .place)) (rows-free-at rest ms i within p))
               ∙ so .whole n;
         })
     go false p true q =
-        let kept : _ = sym (keeps-precedes rate at arrival ms a i (getD ms i nowhere) (so .stands)) ∙ q in
+        let kept : _ = sym (keeps-precedes rate at ms a i (getD ms i nowhere) (so .stands)) ∙ q in
         rw (p, q)
         (record {
           part = so .part;
@@ -216,12 +217,12 @@ led-step {rate} {at} {arrival} {word} {ms} {a} {rest} {i} {next} below within so
           whole =
               λ n.
               sym
-              (ap (ledFrom (biasedLate rate at arrival) arrival n ms (a .place)) (rows-held-at rest ms i within p)
-              ∙ ledFrom-keeps (biasedLate rate at arrival) arrival n ms (a .place) _ _ kept)
+              (ap (ledFrom (biasedLate rate at) n ms (a .place)) (rows-held-at rest ms i within p)
+              ∙ ledFrom-keeps (biasedLate rate at) n ms (a .place) _ _ kept)
               ∙ so .whole n;
         })
     go false p false q =
-        let lost : _ = sym (keeps-precedes rate at arrival ms a i (getD ms i nowhere) (so .stands)) ∙ q in
+        let lost : _ = sym (keeps-precedes rate at ms a i (getD ms i nowhere) (so .stands)) ∙ q in
         rw (p, q)
         (record {
           part = omega arith;
@@ -229,42 +230,42 @@ led-step {rate} {at} {arrival} {word} {ms} {a} {rest} {i} {next} below within so
           whole =
               λ n.
               sym
-              (ap (ledFrom (biasedLate rate at arrival) arrival n ms (a .place)) (rows-held-at rest ms i within p)
-              ∙ ledFrom-takes (biasedLate rate at arrival) arrival n ms (a .place) i _ below lost)
+              (ap (ledFrom (biasedLate rate at) n ms (a .place)) (rows-held-at rest ms i within p)
+              ∙ ledFrom-takes (biasedLate rate at) n ms (a .place) i _ below lost)
               ∙ so .whole n;
         })
 
 pub led-end :
-    {rate : ℕ} {at : Reading} {arrival : Bool} {word : ℕ} {ms : Rows} {a : Lead} {rest i : ℕ} → length ms ≤ i →
-    LedSoFar rate at arrival word ms a rest i → IsLeading rate at arrival word ms (a .place)
+    {rate : ℕ} {at : Reading} {word : ℕ} {ms : Rows} {a : Lead} {rest i : ℕ} → length ms ≤ i →
+    LedSoFar rate at word ms a rest i → IsLeading rate at word ms (a .place)
 unfolding rowsAt
-led-end {rate} {at} {arrival} {word} {ms} {a} {rest} {i} h so n =
+led-end {rate} {at} {word} {ms} {a} {rest} {i} h so n =
     sym
-    (ap (λ (l : Rows). ledFrom (biasedLate rate at arrival) arrival n ms (a .place) (rowsAt rest l))
+    (ap (λ (l : Rows). ledFrom (biasedLate rate at) n ms (a .place) (rowsAt rest l))
     (drop-of-length-le ms h))
     ∙ so .whole n
 
 -- ---- the choice where a place leads and no rows are to come
 
 pub led-none :
-    (late : Record → ℤ) (arrival : Bool) (n : ℕ) (ms rows : Rows) (place : ℕ) →
-    ledFrom late arrival n ms place [] ≡ led late arrival n rows → 64 ≤ place →
-    Choice.Refused 20 ≡ led late arrival n rows
+    (late : Record → ℤ) (n : ℕ) (ms rows : Rows) (place : ℕ) →
+    ledFrom late n ms place [] ≡ led late n rows → 64 ≤ place →
+    Choice.Refused 20 ≡ led late n rows
 unfolding led
-led-none late arrival n ms rows place whole none =
-    ap (λ (t : Bool). cond t (targetOf arrival (leader late (getD ms place nowhere) []) n) (Choice.Refused 20))
+led-none late n ms rows place whole none =
+    ap (λ (t : Bool). cond t (targetOf (leader late (getD ms place nowhere) []) n) (Choice.Refused 20))
     (sym (le-ltb place 64 none))
     ∙ whole
 
 pub led-one :
-    (late : Record → ℤ) (arrival : Bool) (n : ℕ) (ms rows : Rows) (place : ℕ) →
-    ledFrom late arrival n ms place [] ≡ led late arrival n rows → place < 64 →
-    (x : Choice) (count : ℕ) → x ≡ targetOf arrival (getD ms place nowhere) count → count ≡ n →
-    x ≡ led late arrival n rows
+    (late : Record → ℤ) (n : ℕ) (ms rows : Rows) (place : ℕ) →
+    ledFrom late n ms place [] ≡ led late n rows → place < 64 →
+    (x : Choice) (count : ℕ) → x ≡ targetOf (getD ms place nowhere) count → count ≡ n →
+    x ≡ led late n rows
 unfolding leader
-led-one late arrival n ms rows place whole one x count e same =
+led-one late n ms rows place whole one x count e same =
     e
-    ∙ ap (targetOf arrival (getD ms place nowhere)) same
-    ∙ ap (λ (t : Bool). cond t (targetOf arrival (getD ms place nowhere) n) (led late arrival n []))
+    ∙ ap (targetOf (getD ms place nowhere)) same
+    ∙ ap (λ (t : Bool). cond t (targetOf (getD ms place nowhere) n) (led late n []))
     (sym (lt-ltb place 64 one))
     ∙ whole

@@ -8,9 +8,9 @@ use lib.Seq.{drop-cons}
 use native.Mathlib.Nat.{pow-zero, pow-suc, pow-succ', pow-le-pow-right, div-one, div-div-eq-div-mul}
 use native.Mathlib.Omega.{arith}
 use borrow.Author.Tests.{eqb-true, not-false}
-use Rattle.places.specs.Places.{isHeld}
+use Rattle.places.specs.Places.{isFree, isHeld}
 use Rattle.register.specs.Register.{Rows}
-use Rattle.table.specs.Members.{nowhere, isFree, placeOf}
+use Rattle.table.specs.Members.{nowhere, placeOf}
 use Rattle.table.proofs.Seats.{place-found}
 
 -- ---- the search

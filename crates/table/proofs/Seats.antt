@@ -2,18 +2,18 @@
 -- word is halved along the list, so each law is an induction over the places.
 use Prim.Native.Nat.{ℕ, zero, suc, _+_, _-_, _*_, _/_, _%_, _^_, _≤_, _<_}
 use mathlib.Core.Bool.{Bool, true, false, not, cond, _&&_, _||_}
-use mathlib.Core.List.{[], _∷_, List·Permᴰ, List·Permᴰ·cons, List·Permᴰ·swap, List·Permᴰ·trans, Permᴰ·refl}
+use mathlib.Core.List.{[], _∷_, List·Memᴰ, List·Memᴰ·head, List·Memᴰ·tail, List·Memᴰ·not-nil, List·Permᴰ, List·Permᴰ·cons, List·Permᴰ·swap, List·Permᴰ·trans, Permᴰ·refl}
 use mathlib.Core.Path.{_≡_, refl, sym, ap, _∙_}
 use lib.Dec.{eqb}
 use lib.ListN.{length, getD, set}
 use native.Mathlib.Nat.{pow-suc}
 use native.Mathlib.Omega.{arith}
 use borrow.Author.Tests.{eqb-true, eqb-false, eq-eqb, ne-eqb}
-use Rattle.places.specs.Places.{isHeld, heldIn}
+use Rattle.places.specs.Places.{isFree, isHeld, heldIn}
 use Rattle.register.specs.declared.Record.{Record}
 use Rattle.register.specs.Register.{Rows, keep, some, hasNumber}
 use Rattle.register.proofs.Rows.{clash}
-use Rattle.table.specs.Members.{nowhere, isFree, rowsAt, placeOf, digit, keepWord}
+use Rattle.table.specs.Members.{nowhere, rowsAt, placeOf, digit, keepWord}
 
 -- ---- a test and its digit
 
@@ -222,3 +222,57 @@ unfolding heldIn rowsAt
 ones-of-rows word [] = refl
 ones-of-rows word (m ∷ ms) =
     ones-step word (heldIn (length ms) (word / 2)) m ms (isFree word) refl (ones-of-rows (word / 2) ms)
+
+-- ---- a row and its place
+
+member-step :
+    (word : ℕ) (m row : Record) (ms : Rows) → (s : Bool) → isFree word ≡ s → List·Memᴰ row (rowsAt (word / 2) ms) →
+    List·Memᴰ row (rowsAt word (m ∷ ms))
+member-step word m row ms true e rest = rw (rows-free word m ms e) rest
+member-step word m row ms false e rest = rw (rows-held word m ms e) (List·Memᴰ·tail rest)
+
+-- a held place's member is one of the rows
+pub member-at-place :
+    (word place : ℕ) (ms : Rows) → isHeld place word ≡ true → place < length ms →
+    List·Memᴰ (getD ms place nowhere) (rowsAt word ms)
+unfolding isHeld
+member-at-place word place [] held h = absurd (omega arith)
+member-at-place word zero (m ∷ ms) held h =
+    rw (rows-held word m ms (not-yes (isFree word) held)) (List·Memᴰ·head refl)
+member-at-place word (suc place) (m ∷ ms) held h =
+    member-step word m (getD ms place nowhere) ms (isFree word) refl
+    (member-at-place (word / 2) place ms held (omega arith))
+
+-- a place where a row is held
+pub record At (row : Record) (word : ℕ) (ms : Rows) : Type 0 where
+  pub place : ℕ
+  pub within : place < length ms
+  pub held : isHeld place word ≡ true
+  pub row-is : getD ms place nowhere ≡ row
+
+at-next : (row m : Record) (word : ℕ) (ms : Rows) → At row (word / 2) ms → At row word (m ∷ ms)
+unfolding isHeld
+at-next row m word ms a =
+    record { place = suc (a .place); within = omega (arith, a .within); held = a .held; row-is = a .row-is }
+
+at-first :
+    (row m : Record) (word : ℕ) (ms : Rows) → isFree word ≡ false → (List·Memᴰ row (rowsAt (word / 2) ms) → At row (word / 2) ms) →
+    List·Memᴰ row (m ∷ rowsAt (word / 2) ms) → At row word (m ∷ ms)
+unfolding isHeld
+at-first row m word ms e rest (List·Memᴰ·head q) =
+    record { place = 0; within = omega arith; held = rw e refl; row-is = sym q }
+at-first row m word ms e rest (List·Memᴰ·tail member) = at-next row m word ms (rest member)
+
+at-step :
+    (row m : Record) (word : ℕ) (ms : Rows) → (s : Bool) → isFree word ≡ s →
+    (List·Memᴰ row (rowsAt (word / 2) ms) → At row (word / 2) ms) →
+    List·Memᴰ row (rowsAt word (m ∷ ms)) → At row word (m ∷ ms)
+at-step row m word ms true e rest member = at-next row m word ms (rest (rw (rows-free word m ms e) at member))
+at-step row m word ms false e rest member = at-first row m word ms e rest (rw (rows-held word m ms e) at member)
+
+-- each row has a place
+pub place-of-member : (row : Record) (word : ℕ) (ms : Rows) → List·Memᴰ row (rowsAt word ms) → At row word ms
+unfolding rowsAt
+place-of-member row word [] member = absurd (List·Memᴰ·not-nil member)
+place-of-member row word (m ∷ ms) member =
+    at-step row m word ms (isFree word) refl (place-of-member row (word / 2) ms) member

@@ -11,7 +11,8 @@ use native.Mathlib.Numerals.{add-one}
 use native.Mathlib.Omega.{arith}
 use Rattle.register.specs.declared.Record.{Record}
 use Rattle.register.specs.Register.{Rows}
-use Rattle.table.specs.Members.{isFree, rowsAt, digit, keepWord, nowhere}
+use Rattle.places.specs.Places.{isFree}
+use Rattle.table.specs.Members.{rowsAt, digit, keepWord, nowhere}
 use Rattle.table.proofs.Seats.{rows-free, rows-held}
 
 -- ---- one digit more

@@ -12,11 +12,14 @@ use Rattle.table.specs.declared.Table.{Table}
 use Rattle.table.specs.declared.Answered.{Answered}
 use Rattle.table.specs.Members.{openingOf, emptyTable, nowhere, placeIn, keepWord}
 
--- refused with 12, opening gives no table: an empty one for group, media source and rate 0 stands for it
+-- what stands for no table beside a 12: an empty one for group 0, which no opening is taken for. It is no refusal in
+-- itself, since it takes reports of group 0: the number is to be looked at first.
+abbrev pub noTable : Table
+noTable = emptyTable (record { group = 0; media = 0; rate = 0 })
+
+-- refused with 12, opening gives no table
 unfoldable pub opened : Opening → Answered
-opened o =
-    cond (isRefusedOpening o) (record { number = 12; table = emptyTable (record { group = 0; media = 0; rate = 0 }) })
-    (record { number = 0; table = emptyTable o })
+opened o = cond (isRefusedOpening o) (record { number = 12; table = noTable }) (record { number = 0; table = emptyTable o })
 
 -- ---- a number's place
 
@@ -42,12 +45,12 @@ numberOf t (Call.sweep at) = 0
 
 -- ---- what a call leaves
 
--- other places held
+-- the table with another word of places held
 abbrev pub withHeld : Table → ℕ → Table
 withHeld t word =
     record { group = t .group; media = t .media; rate = t .rate; held = word; members = t .members }
 
--- a record at a place
+-- the table with a record at a place
 abbrev pub withMember : Table → ℕ → Record → Table
 withMember t place x =
     record { group = t .group; media = t .media; rate = t .rate; held = t .held; members = set (t .members) place x }
@@ -63,7 +66,7 @@ acceptedBy t (Call.report x at) = filed t x
 acceptedBy t (Call.farewell source origin) = withHeld t (t .held - 2 ^ placeIn t source)
 acceptedBy t (Call.sweep at) = withHeld t (keepWord (freshAt (openingOf t) at) (t .held) (t .members))
 
--- what a refusal leaves, whatever its number: the table as it was
+-- what a refusal leaves, whatever the number and the call: the table as it was
 abbrev pub refusedBy : Table → ℕ → Call → Table
 refusedBy t number call = t
 

@@ -37,18 +37,16 @@ countedWord rate at held members =
     cond (arrives rate at held members) (freshWord rate at held members) (presentingWord rate at held members)
 
 -- the row that leads, or 20 without rows
-unfoldable pub led : (Record → ℤ) → Bool → ℕ → Rows → Choice
-led late arrival count [] = Choice.Refused 20
-led late arrival count (row ∷ rows) = targetOf arrival (leader late row rows) count
+unfoldable pub led : (Record → ℤ) → ℕ → Rows → Choice
+led late count [] = Choice.Refused 20
+led late count (row ∷ rows) = targetOf (leader late row rows) count
 
 -- the one that leads among the members that a word marks, all of them counted
-abbrev pub choiceIn : ℕ → Reading → Bool → ℕ → Rows → Choice
-choiceIn rate at arrival word members =
-    led (latenessOf (atRate rate) at arrival) arrival (heldIn 64 word) (rowsAt word members)
+abbrev pub choiceIn : ℕ → Reading → ℕ → Rows → Choice
+choiceIn rate at word members = led (latenessOf (atRate rate) at) (heldIn 64 word) (rowsAt word members)
 
 unfoldable pub choiceAmong : ℕ → Reading → ℕ → Rows → Choice
-choiceAmong rate at held members =
-    choiceIn rate at (arrives rate at held members) (countedWord rate at held members) members
+choiceAmong rate at held members = choiceIn rate at (countedWord rate at held members) members
 
 unfoldable pub choiceOf : Table → Reading → Choice
 choiceOf t at = choiceAmong (t .rate) at (t .held) (t .members)

@@ -2,14 +2,16 @@
 -- before handed back.
 use Prim.Native.Nat.{ℕ}
 use mathlib.Core.Path.{_≡_}
+use mathlib.Core.Bool.{false}
 use mathlib.Core.List.{List, [], _∷_, List·Memᴰ, List·Permᴰ}
+use lib.ListN.{length}
 use Rattle.register.specs.declared.Record.{Record}
 use Rattle.register.specs.declared.Reading.{Reading}
-use Rattle.register.specs.Register.{Opening, Rows, Call, answers, afterAll}
+use Rattle.register.specs.Register.{Opening, Rows, Call, isRefusedOpening, answers, afterAll}
 use Rattle.register.specs.Choosing.{choice}
 use Rattle.register.specs.Promise.{Unique, AllInRange, Promised}
 use Rattle.table.specs.declared.Table.{Table}
-use Rattle.table.specs.Members.{openingOf, membersOf}
+use Rattle.table.specs.Members.{openingOf, membersOf, countOf, seatAt}
 use Rattle.table.specs.Calls.{opened, answered}
 use Rattle.table.specs.Choose.{chosenOf}
 
@@ -23,12 +25,12 @@ unfoldable pub tableFrom : Table → List Call → Table
 tableFrom t [] = t
 tableFrom t (call ∷ calls) = tableFrom (answered t call .table) calls
 
--- this table and these rows are what opening and this list of calls leave
-pub record Left (o : Opening) (calls : List Call) (t : Table) (rows : Rows) : Type 0 where
-  pub opens : opened o .number ≡ 0
+-- this table and these rows are what an opening that is taken and this list of calls leave
+pub record Reached (o : Opening) (calls : List Call) (t : Table) (rows : Rows) : Type 0 where
+  pub taken : isRefusedOpening o ≡ false
   pub ranges : AllInRange calls
-  pub leaves : t ≡ tableFrom (opened o .table) calls
-  pub records : rows ≡ afterAll o [] calls
+  pub table-is : t ≡ tableFrom (opened o .table) calls
+  pub rows-are : rows ≡ afterAll o [] calls
 
 -- members and rows agree one to one, in number, origin and every field of the report, each number once; group, media
 -- source and rate are the opening's
@@ -37,13 +39,18 @@ pub record Agree (o : Opening) (t : Table) (rows : Rows) : Type 0 where
   pub members : List·Permᴰ (membersOf t) rows
   pub unique : Unique rows
   pub own : (row : Record) → List·Memᴰ row rows → (row .report .group ≡ o .group) × (row .report .media ≡ o .media)
+  -- as the public calls show them: the count is that of the rows, a seat that is held has a row, and each row a seat
+  pub count : countOf t ≡ length rows
+  pub seats : (place : ℕ) → seatAt t place .held ≡ 1 → List·Memᴰ (seatAt t place .member) rows
+  pub seated : (row : Record) → List·Memᴰ row rows → (place : ℕ) × (seatAt t place ≡ record { held = 1; member = row })
 
 -- what demand 3 says of a table, the rows and the calls that left them
 pub record Demand3 (o : Opening) (calls : List Call) (t : Table) (rows : Rows) : Type 0 where
-  -- every answer is the register's
-  pub answered : answersFrom (opened o .table) calls ≡ answers o [] calls
+  -- opening is taken, and every answer is the register's
+  pub opens : opened o .number ≡ 0
+  pub numbers : answersFrom (opened o .table) calls ≡ answers o [] calls
   pub agree : Agree o t rows
   -- choosing gives the register's choice at any reading, and leaves the table as it was
   pub chosen : (at : Reading) → chosenOf t at ≡ record { choice = choice o at rows; table = t }
   -- what the customer is promised of that choice
-  pub promised : (at : Reading) → Promised o at rows (choice o at rows)
+  pub promised : (at : Reading) → Promised o at rows (chosenOf t at .choice)

@@ -40,4 +40,4 @@ itemTaken t (Item.Settings s) origin at = record { outcome = Outcome.Passed; tab
 
 unfoldable pub taken : Table → Found → Origin → Reading → Taken
 taken t (Found.Item x) origin at = itemTaken t (x .item) origin at
-taken t (Found.Refused r) origin at = record { outcome = Outcome.Refused r; table = t }
+taken t (Found.Refused r) origin at = record { outcome = Outcome.Unread r; table = t }

@@ -15,21 +15,22 @@ use Rattle.register.specs.Choosing.{delayOf, targetOf}
 use Rattle.register.specs.Leader.{leader}
 use Rattle.table.specs.declared.choose.Late.{Late}
 use Rattle.table.specs.declared.choose.Lead.{Lead}
-use Rattle.table.specs.Members.{isFree, rowsAt, nowhere}
+use Rattle.places.specs.Places.{isFree}
+use Rattle.table.specs.Members.{rowsAt, nowhere}
 use Rattle.table.specs.Choose.{led}
 
 -- lateness and 30 s more, which for a fresh row is not below 0: rate × (delay + 30 s − NTP age) + RTP age × 2^32
 unfoldable pub biased : ℕ → ℕ → ℕ → ℕ → ℕ
 biased rate delay ntpAge rtpAge = rate * (delay + 30 * 2 ^ 32 - ntpAge) + rtpAge * 2 ^ 32
 
-abbrev pub biasedOf : ℕ → Reading → Bool → Record → ℕ
-biasedOf rate at arrival row =
-    biased rate (delayOf arrival row)
+abbrev pub biasedOf : ℕ → Reading → Record → ℕ
+biasedOf rate at row =
+    biased rate (delayOf row)
     (ntpAge (at .ntp) (row .report .received))
     (rtpAge (at .rtp) (row .report .rtp))
 
-abbrev pub biasedLate : ℕ → Reading → Bool → Record → ℤ
-biasedLate rate at arrival row = pos (biasedOf rate at arrival row)
+abbrev pub biasedLate : ℕ → Reading → Record → ℤ
+biasedLate rate at row = pos (biasedOf rate at row)
 
 -- ---- in two words
 
@@ -44,9 +45,9 @@ joined x = x .whole * 2 ^ 32 + x .part
 -- ---- the one that leads
 
 -- the row at a place, as one that leads
-abbrev pub leadOf : ℕ → Reading → Bool → ℕ → Record → Lead
-leadOf rate at arrival place row =
-    record { place = place; late = inTwo (biasedOf rate at arrival row); source = row .source }
+abbrev pub leadOf : ℕ → Reading → ℕ → Record → Lead
+leadOf rate at place row =
+    record { place = place; late = inTwo (biasedOf rate at row); source = row .source }
 
 -- whether there is one that leads, and it goes before another: `precedes` on what the code holds
 abbrev pub keepsLead : Lead → Lead → Bool
@@ -60,14 +61,14 @@ abbrev pub leadNext : ℕ → Lead → Lead → Lead
 leadNext word a b = cond (isFree word || keepsLead a b) a b
 
 -- the choice where the row at a place leads so far, no row at place 64, and rows are to come
-abbrev pub ledFrom : (Record → ℤ) → Bool → ℕ → Rows → ℕ → Rows → Choice
-ledFrom late arrival count members place rows =
-    cond (ltb place 64) (targetOf arrival (leader late (getD members place nowhere) rows) count)
-    (led late arrival count rows)
+abbrev pub ledFrom : (Record → ℤ) → ℕ → Rows → ℕ → Rows → Choice
+ledFrom late count members place rows =
+    cond (ltb place 64) (targetOf (leader late (getD members place nowhere) rows) count)
+    (led late count rows)
 
 -- a place leads among the members that a word marks: whatever the count, its choice is that of all of them
-abbrev pub IsLeading : ℕ → Reading → Bool → ℕ → Rows → ℕ → Type 0
-IsLeading rate at arrival word members place =
+abbrev pub IsLeading : ℕ → Reading → ℕ → Rows → ℕ → Type 0
+IsLeading rate at word members place =
     (count : ℕ) →
-    ledFrom (biasedLate rate at arrival) arrival count members place []
-    ≡ led (biasedLate rate at arrival) arrival count (rowsAt word members)
+    ledFrom (biasedLate rate at) count members place []
+    ≡ led (biasedLate rate at) count (rowsAt word members)

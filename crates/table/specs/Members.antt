@@ -4,7 +4,7 @@ use mathlib.Core.Bool.{Bool, true, false, not, cond, _&&_}
 use mathlib.Core.List.{List, [], _∷_}
 use lib.Dec.{ltb, eqb}
 use lib.ListN.{getD, replicate}
-use Rattle.places.specs.Places.{isHeld, heldIn}
+use Rattle.places.specs.Places.{isFree, isHeld, heldIn}
 use Rattle.register.specs.declared.Record.{Record}
 use Rattle.register.specs.Register.{Opening, Rows, hasNumber}
 use Rattle.table.specs.declared.Table.{Table}
@@ -35,7 +35,7 @@ zeros address =
 abbrev pub vacant : Record
 vacant = zeros (replicate 16 0)
 
--- what stands behind the last place
+-- the default of a place behind the last, which is never seen
 abbrev pub nowhere : Record
 nowhere = zeros []
 
@@ -45,9 +45,6 @@ emptyTable o =
     record { group = o .group; media = o .media; rate = o .rate; held = 0; members = replicate 64 vacant }
 
 -- ---- who is a member
-
-abbrev pub isFree : ℕ → Bool
-isFree word = eqb (word % 2) 0
 
 -- the members at the places held, in the order of places
 unfoldable pub rowsAt : ℕ → Rows → Rows
@@ -69,7 +66,7 @@ seatAt t place =
 
 -- ---- places
 
--- the place of the member with a number, or behind the last one where none has it
+-- the place of the member with a number, or behind the last where none has it: 64 in a table
 unfoldable pub placeOf : ℕ → ℕ → Rows → ℕ
 placeOf source word [] = 0
 placeOf source word (m ∷ ms) =

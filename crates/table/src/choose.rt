@@ -10,13 +10,14 @@ use times::presentation;
 use times::presentation_delay;
 use times::rtp_age;
 ghost use mathlib.Core.Bool.{not, cond, _&&_};
+ghost use lib.Dec.{eqb};
 ghost use mathlib.Core.Path.{_≡_};
 ghost use Prim.Native.Nat.{_+_, _-_, _*_, _^_, _≤_, _<_};
-ghost use Rattle.places.specs.Places.{heldIn};
+ghost use Rattle.places.specs.Places.{isFree, heldIn};
 ghost use Rattle.times.specs.Times.{expanded};
-ghost use Rattle.register.specs.Register.{freshAt};
+ghost use Rattle.register.specs.Register.{presents, freshAt};
 ghost use Rattle.register.specs.Choosing.{delayOf, targetOf};
-ghost use Rattle.table.specs.Members.{isFree, digit, rowsAt};
+ghost use Rattle.table.specs.Members.{digit, rowsAt};
 ghost use Rattle.table.specs.Choose.{atRate, freshWord, presentingWord, led, choiceAmong};
 ghost use Rattle.table.specs.Lateness.{biased, biasedLate, inTwo, leadOf, keepsLead, leadNext, IsLeading};
 
@@ -118,21 +119,21 @@ fn late_by(rate: u32, delay: u64, age: u64, ticks: u32) -> Late
     }
 }
 
-// A counted member's delay: 0 in arrival mode.
-fn delay_of(row: Record, arrival: bool) -> u64
-    ensures { λ r. ⌜ (r ≡ delayOf arrival row) × (r ≤ 2 ^ 48) ⌝ }
+// A counted member's delay: 0 with P 0, which counts in arrival mode alone.
+fn delay_of(row: Record) -> u64
+    ensures { λ r. ⌜ (r ≡ delayOf row) × (r ≤ 2 ^ 48) ⌝ }
 {
-    if arrival {
+    if row.report.p == 0 {
         return 0;
     }
     presentation_delay(row.report.received, row.report.presented)
 }
 
 // The member at a place, as one that leads.
-fn lead_of(place: usize, row: Record, rate: u32, at: Reading, arrival: bool) -> Lead
-    ensures { λ r. ⌜ r ≡ leadOf rate at arrival place row ⌝ }
+fn lead_of(place: usize, row: Record, rate: u32, at: Reading) -> Lead
+    ensures { λ r. ⌜ r ≡ leadOf rate at place row ⌝ }
 {
-    let delay = delay_of(row, arrival);
+    let delay = delay_of(row);
     let age = ntp_age(at.ntp, row.report.received);
     let ticks = rtp_age(at.rtp, row.report.rtp);
     let late = late_by(rate, delay, age, ticks);
@@ -167,22 +168,14 @@ fn keeps_lead(a: Lead, b: Lead) -> bool
 }
 
 // Who leads after the member at a place, which a word's lowest digit marks or not.
-fn lead_next(
-    word: u64,
-    lead: Lead,
-    place: usize,
-    row: Record,
-    rate: u32,
-    at: Reading,
-    arrival: bool,
-) -> Lead
+fn lead_next(word: u64, lead: Lead, place: usize, row: Record, rate: u32, at: Reading) -> Lead
     requires { ⌜ lead .late .part < 2 ^ 32 ⌝ }
-    ensures { λ r. ⌜ r ≡ leadNext word lead (leadOf rate at arrival place row) ⌝ }
+    ensures { λ r. ⌜ r ≡ leadNext word lead (leadOf rate at place row) ⌝ }
 {
     if word % 2 == 0 {
         return lead;
     }
-    let next = lead_of(place, row, rate, at, arrival);
+    let next = lead_of(place, row, rate, at);
     if keeps_lead(lead, next) {
         return lead;
     }
@@ -190,8 +183,8 @@ fn lead_next(
 }
 
 // The place of the member that leads among those that a word marks, or 64 where it marks none.
-fn leading_place(word: u64, members: [Record; 64], rate: u32, at: Reading, arrival: bool) -> usize
-    ensures { λ r. ⌜ IsLeading rate at arrival word members r ⌝ }
+fn leading_place(word: u64, members: [Record; 64], rate: u32, at: Reading) -> usize
+    ensures { λ r. ⌜ IsLeading rate at word members r ⌝ }
 {
     let mut lead = Lead {
         place: 64,
@@ -201,7 +194,7 @@ fn leading_place(word: u64, members: [Record; 64], rate: u32, at: Reading, arriv
     let mut rest = word;
     let mut i: usize = 0;
     while i < 64 {
-        lead = lead_next(rest, lead, i, members[i], rate, at, arrival);
+        lead = lead_next(rest, lead, i, members[i], rate, at);
         rest = rest / 2;
         i += 1;
     }
@@ -209,20 +202,20 @@ fn leading_place(word: u64, members: [Record; 64], rate: u32, at: Reading, arriv
 }
 
 // The presented time of a target: 0 in arrival mode.
-fn presented_of(row: Record, arrival: bool) -> u64
-    ensures { λ r. ⌜ r ≡ cond arrival 0 (expanded (row .report .received) (row .report .presented)) ⌝ }
+fn presented_of(row: Record) -> u64
+    ensures { λ r. ⌜ r ≡ cond (presents row) (expanded (row .report .received) (row .report .presented)) 0 ⌝ }
 {
-    if arrival {
+    if row.report.p == 0 {
         return 0;
     }
     presentation(row.report.received, row.report.presented)
 }
 
 // A member as the target, with how many were counted.
-fn target_of(row: Record, arrival: bool, counted: u32) -> Choice
-    ensures { λ r. ⌜ r ≡ targetOf arrival row counted ⌝ }
+fn target_of(row: Record, counted: u32) -> Choice
+    ensures { λ r. ⌜ r ≡ targetOf row counted ⌝ }
 {
-    let presented = presented_of(row, arrival);
+    let presented = presented_of(row);
     Choice::Target(Target {
         source: row.source,
         group: row.report.group,
@@ -235,23 +228,30 @@ fn target_of(row: Record, arrival: bool, counted: u32) -> Choice
 }
 
 // The one that leads among the members that a word marks, all of them counted, or 20 where it marks none.
-fn choice_in(word: u64, members: [Record; 64], rate: u32, at: Reading, arrival: bool) -> Choice
-    ensures { λ r. ⌜ r ≡ led (biasedLate rate at arrival) arrival (heldIn 64 word) (rowsAt word members) ⌝ }
+fn choice_in(word: u64, members: [Record; 64], rate: u32, at: Reading) -> Choice
+    ensures { λ r. ⌜ r ≡ led (biasedLate rate at) (heldIn 64 word) (rowsAt word members) ⌝ }
 {
-    let place = leading_place(word, members, rate, at, arrival);
+    let place = leading_place(word, members, rate, at);
     if 64 <= place {
         return Choice::Refused(20);
     }
-    target_of(members[place], arrival, count_held(word))
+    target_of(members[place], count_held(word))
 }
 
 // The members that report presentation count; where none does, all that are fresh, in arrival mode.
+fn counted_word(marks: Marks) -> u64
+    ensures { λ r. ⌜ r ≡ cond (eqb (marks .presenting) 0) (marks .fresh) (marks .presenting) ⌝ }
+{
+    if marks.presenting == 0 {
+        return marks.fresh;
+    }
+    marks.presenting
+}
+
+// The target among the members at the places held, or 20.
 pub(crate) fn choice_at(held: u64, members: [Record; 64], rate: u32, at: Reading) -> Choice
     ensures { λ r. ⌜ r ≡ choiceAmong rate at held members ⌝ }
 {
     let marks = marks_at(held, members, rate, at);
-    if marks.presenting == 0 {
-        return choice_in(marks.fresh, members, rate, at, true);
-    }
-    choice_in(marks.presenting, members, rate, at, false)
+    choice_in(counted_word(marks), members, rate, at)
 }

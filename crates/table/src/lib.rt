@@ -62,19 +62,21 @@ pub struct Chosen {
     pub table: Table,
 }
 
-// The member at a place, where `held` is 1. Where none is held there, it is 0 and `member` a record of zeros.
+// The member at a place: `held` is 1 and `member` the member, or `held` is 0 and `member` a record of zeros.
 #[repr(C)]
 pub struct Seat {
     pub held: u32,
     pub member: Record,
 }
 
-// What became of an item that the reader answered with: the number of its call, passed by because it is no call, or
-// refused by the reader.
+// What became of what the reader gave at an index.
 pub enum Outcome {
+    // A report or a farewell: the number of its call, 0 where that was accepted.
     Number(u64),
+    // Another item, which is passed by.
     Passed,
-    Refused(Refusal),
+    // No item, but the reader's refusal.
+    Unread(Refusal),
 }
 
 // What became of an item, and the table afterwards.
@@ -114,8 +116,7 @@ fn record_of(r: Report, origin: Origin) -> Record
 }
 
 impl Table {
-    // A table for a group, a media source and a clock rate. Refused with 12 it is one without members, for group, media
-    // source and rate 0.
+    // A table for a group, a media source and a clock rate. Refused with 12, the table is `noTable`.
     pub fn open(group: u32, media: u32, rate: u32) -> Answered
         ensures { λ r. ⌜ r ≡ opened (record { group = group; media = media; rate = rate }) ⌝ }
     {
@@ -148,7 +149,7 @@ impl Table {
         next
     }
 
-    // A report under its origin, at its sender's reading.
+    // A report under its origin, at the sender's reading.
     pub fn report(self, x: Record, at: Reading) -> Answered
         ensures { λ r. ⌜ r ≡ answered self (Call.report x at) ⌝ }
     {
@@ -272,7 +273,7 @@ impl Table {
                 self.intake_item(item, origin, at)
             }
             Found::Refused(r) => Taken {
-                outcome: Outcome::Refused(r),
+                outcome: Outcome::Unread(r),
                 table: self,
             },
         }

@@ -8,8 +8,8 @@ ghost use Prim.Native.Nat.{_≤_, _<_};
 ghost use lib.Dec.{ltb, eqb};
 ghost use lib.ListN.{getD};
 ghost use Rattle.origin.specs.Origins.{sameOrigin};
-ghost use Rattle.places.specs.Places.{isHeld};
-ghost use Rattle.table.specs.Members.{nowhere, isFree, placeOf};
+ghost use Rattle.places.specs.Places.{isFree, isHeld};
+ghost use Rattle.table.specs.Members.{nowhere, placeOf};
 
 // Whether the word's first place is held, by a member of this number.
 fn is_held_by(word: u64, number: u32, source: u32) -> bool

@@ -110,7 +110,7 @@ elsewhere-same o t rows h source origin = go (isMember t source) refl
         (none-of-number o t rows h source e))
 
 -- as many rows as places held
-rows-count : (o : Opening) (t : Table) (rows : Rows) → Holds o t rows → heldIn 64 (t .held) ≡ length rows
+pub rows-count : (o : Opening) (t : Table) (rows : Rows) → Holds o t rows → heldIn 64 (t .held) ≡ length rows
 rows-count o t rows h =
     ap (λ (k : ℕ). heldIn k (t .held)) (sym (h .long))
     ∙ ones-of-rows (t .held) (t .members)

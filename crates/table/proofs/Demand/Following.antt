@@ -5,11 +5,10 @@ use mathlib.Core.Bool.{Bool, true, false, not, _&&_, _||_}
 use mathlib.Core.List.{[], _∷_}
 use mathlib.Core.Path.{_≡_, refl, sym, ap, _∙_}
 use lib.Dec.{eqb}
-use lib.IntN.{ℤ}
 use lib.ListN.{length}
 use native.Mathlib.Omega.{arith}
 use borrow.Author.Tests.{ne-eqb}
-use Rattle.places.specs.Places.{heldIn}
+use Rattle.places.specs.Places.{isFree, heldIn}
 use Rattle.places.proofs.Laws.{eqb-same}
 use Rattle.register.specs.declared.Record.{Record}
 use Rattle.register.specs.declared.Reading.{Reading}
@@ -18,7 +17,7 @@ use Rattle.register.specs.Choosing.{isArrival, counted, latenessOf, choice}
 use Rattle.register.proofs.Rows.{keep-both, some-both}
 use Rattle.register.proofs.Promised.{choice-none, choice-leading}
 use Rattle.table.specs.declared.Table.{Table}
-use Rattle.table.specs.Members.{openingOf, isFree, rowsAt, membersOf, digit, keepWord}
+use Rattle.table.specs.Members.{openingOf, rowsAt, membersOf, digit, keepWord}
 use Rattle.table.specs.Choose.{arrives, countedWord, led, choiceAmong, choiceOf}
 use Rattle.table.proofs.Seats.{rows-free, rows-held, rows-keepWord, ones-of-rows}
 
@@ -74,7 +73,7 @@ counted-rows o at word ms = go (arrives (o .rate) at word ms) refl
 
 choice-led :
     (o : Opening) (at : Reading) (rows those : Rows) → counted o at rows ≡ those →
-    led (latenessOf o at (isArrival o at rows)) (isArrival o at rows) (length those) those ≡ choice o at rows
+    led (latenessOf o at) (length those) those ≡ choice o at rows
 unfolding led
 choice-led o at rows [] e = sym (choice-none o at rows e)
 choice-led o at rows (a ∷ rest) e = sym (choice-leading o at rows a rest e)
@@ -88,12 +87,6 @@ choice-of-members t at long =
     let rows : rowsAt word (t .members) ≡ counted o at (membersOf t) = counted-rows o at (t .held) (t .members) in
     let count : heldIn 64 word ≡ length (rowsAt word (t .members)) =
     ap (λ (k : ℕ). heldIn k word) (sym long) ∙ ones-of-rows word (t .members) in
-    let arrival : arrives (t .rate) at (t .held) (t .members) ≡ isArrival o at (membersOf t) =
-    arrives-arrival o at (t .held) (t .members) in
-    ap (λ (b : Bool). led (latenessOf o at b) b (heldIn 64 word) (rowsAt word (t .members))) arrival
-    ∙ ap (λ (n : ℕ). led (late o) (isArrival o at (membersOf t)) n (rowsAt word (t .members))) count
-    ∙ ap (λ (those : Rows). led (late o) (isArrival o at (membersOf t)) (length those) those) rows
+    ap (λ (n : ℕ). led (latenessOf o at) n (rowsAt word (t .members))) count
+    ∙ ap (λ (those : Rows). led (latenessOf o at) (length those) those) rows
     ∙ choice-led o at (membersOf t) (counted o at (membersOf t)) refl
-  where
-    late : Opening → Record → ℤ
-    late o = latenessOf o at (isArrival o at (membersOf t))

@@ -1,26 +1,31 @@
 -- Demand 3, one theorem: by induction over the calls, table and register answer alike and stay in agreement; choosing on
 -- the table is then the register's choice, whatever the order of rows.
-use Prim.Native.Nat.{ℕ}
-use mathlib.Core.Bool.{Bool, true, false}
-use mathlib.Core.List.{List, [], _∷_, Permᴰ·refl, Permᴰ·symm}
+use Prim.Native.Nat.{ℕ, _<_}
+use mathlib.Core.Bool.{Bool, true, false, _&&_, and-eq-true-iff}
+use mathlib.Core.List.{List, [], _∷_, List·Memᴰ, Permᴰ·refl, Permᴰ·symm}
 use mathlib.Core.Path.{_≡_, refl, ap, _∙_}
-use lib.ListN.{length-replicate}
+use lib.Dec.{ltb}
+use lib.ListN.{length, length-replicate}
 use native.Mathlib.Omega.{arith}
+use borrow.Author.Tests.{ltb-true, lt-ltb}
+use Rattle.places.specs.Places.{isHeld}
+use Rattle.register.specs.declared.Record.{Record}
 use Rattle.register.specs.declared.Reading.{Reading}
 use Rattle.register.specs.declared.Choice.{Choice}
 use Rattle.register.specs.Register.{Opening, Rows, Call, isRefusedOpening, keep, answer, after, answers, afterAll}
 use Rattle.register.specs.Choosing.{choice}
 use Rattle.register.specs.Promise.{AllInRange}
+use Rattle.register.proofs.Rows.{member-permuted}
 use Rattle.register.proofs.Permuted.{unique-permuted, choice-permuted}
 use Rattle.register.proofs.Stands.{Sound, sound-none, sound-after}
 use Rattle.register.proofs.Promised.{choice-promised}
 use Rattle.table.specs.declared.Table.{Table}
-use Rattle.table.specs.Members.{membersOf, vacant, emptyTable}
+use Rattle.table.specs.Members.{membersOf, countOf, seatAt, vacant, emptyTable}
 use Rattle.table.specs.Calls.{opened, answered}
 use Rattle.table.specs.Choose.{choiceOf}
-use Rattle.table.specs.History.{answersFrom, tableFrom, Left, Demand3}
-use Rattle.table.proofs.Seats.{rows-none}
-use Rattle.table.proofs.Demand.Agreement.{Holds, number-same, answered-holds}
+use Rattle.table.specs.History.{answersFrom, tableFrom, Agree, Reached, Demand3}
+use Rattle.table.proofs.Seats.{rows-none, member-at-place, place-of-member}
+use Rattle.table.proofs.Demand.Agreement.{Holds, rows-count, number-same, answered-holds}
 use Rattle.table.proofs.Demand.Following.{choice-of-members}
 
 -- ---- opening
@@ -35,13 +40,9 @@ empty-holds o =
       unique = λ source. omega arith;
     }
 
-opened-holds : (o : Opening) → opened o .number ≡ 0 → Holds o (opened o .table) []
+opened-taken : (o : Opening) → isRefusedOpening o ≡ false → (opened o .number ≡ 0) × Holds o (opened o .table) []
 unfolding opened
-opened-holds o e = go (isRefusedOpening o) refl
-  where
-    go : (b : Bool) → isRefusedOpening o ≡ b → Holds o (opened o .table) []
-    go true q = let number : _≡_ {A = ℕ} 12 0 = rw q at e in absurd (omega (arith, number))
-    go false q = rw q (empty-holds o)
+opened-taken o e = rw e (refl, empty-holds o)
 
 -- ---- any list of calls
 
@@ -77,23 +78,65 @@ chosen-same o t rows h at =
     ∙ ap (λ (p : Opening). choice p at (membersOf t)) (h .opening)
     ∙ choice-permuted o at (h .same) (unique-permuted (Permᴰ·symm (h .same)) (h .unique))
 
+-- ---- the members, as the public calls show them
+
+seat-row :
+    (o : Opening) (t : Table) (rows : Rows) → Holds o t rows → (place : ℕ) → seatAt t place .held ≡ 1 →
+    List·Memᴰ (seatAt t place .member) rows
+unfolding seatAt
+seat-row o t rows h place = go (ltb place 64 && isHeld place (t .held)) refl
+  where
+    go :
+        (b : Bool) → (ltb place 64 && isHeld place (t .held)) ≡ b → seatAt t place .held ≡ 1 →
+        List·Memᴰ (seatAt t place .member) rows
+    go true e one =
+        let both : _ = and-eq-true-iff (ltb place 64) (isHeld place (t .held)) .0 e in
+        let within : place < length (t .members) = omega (arith, ltb-true place 64 (both .0), h .long) in
+        rw e (member-permuted (h .same) (member-at-place (t .held) place (t .members) (both .1) within))
+    go false e one = let none : _≡_ {A = ℕ} 0 1 = rw e at one in absurd (omega (arith, none))
+
+row-seat :
+    (o : Opening) (t : Table) (rows : Rows) → Holds o t rows → (row : Record) → List·Memᴰ row rows →
+    (place : ℕ) × (seatAt t place ≡ record { held = 1; member = row })
+unfolding seatAt
+row-seat o t rows h row member =
+    let at : _ = place-of-member row (t .held) (t .members) (member-permuted (Permᴰ·symm (h .same)) member) in
+    let below : ltb (at .place) 64 ≡ true = lt-ltb (at .place) 64 (omega (arith, at .within, h .long)) in
+    (at .place, rw (below, at .held, at .row-is) refl)
+
+agreed : (o : Opening) (t : Table) (rows : Rows) → Holds o t rows → Sound o rows → Agree o t rows
+unfolding countOf
+agreed o t rows h sound =
+    record {
+      opening = h .opening;
+      members = h .same;
+      unique = h .unique;
+      own = λ row member. (sound row member .group, sound row member .media);
+      count = rows-count o t rows h;
+      seats = seat-row o t rows h;
+      seated = row-seat o t rows h;
+    }
+
 -- ---- demand 3
 
 pub demand3 :
-    (o : Opening) (calls : List Call) (t : Table) (rows : Rows) → Left o calls t rows → Demand3 o calls t rows
-demand3 o calls t rows left =
+    (o : Opening) (calls : List Call) (t : Table) (rows : Rows) → Reached o calls t rows → Demand3 o calls t rows
+demand3 o calls t rows reached =
+    let start : _ = opened-taken o (reached .taken) in
     let run : Followed o (opened o .table) [] calls =
-    followed o (opened o .table) [] calls (opened-holds o (left .opens)) (sound-none o) (left .ranges) in
-    let holds : Holds o t rows = rw (left .leaves, left .records) (run .holds) in
-    let sound : Sound o rows = rw (left .records) (run .sound) in
+    followed o (opened o .table) [] calls (start .1) (sound-none o) (reached .ranges) in
+    let holds : Holds o t rows = rw (reached .table-is, reached .rows-are) (run .holds) in
+    let sound : Sound o rows = rw (reached .rows-are) (run .sound) in
     record {
-      answered = run .answers-same;
-      agree = record {
-        opening = holds .opening;
-        members = holds .same;
-        unique = holds .unique;
-        own = λ row member. (sound row member .group, sound row member .media);
-      };
+      opens = start .0;
+      numbers = run .answers-same;
+      agree = agreed o t rows holds sound;
       chosen = λ at. ap (λ (c : Choice). record { choice = c; table = t }) (chosen-same o t rows holds at);
-      promised = λ at. choice-promised o at rows sound;
+      promised = λ at. rw (chosen-same o t rows holds at) (choice-promised o at rows sound);
     }
+
+-- every opening that is taken and every list of calls in range reach a table and rows
+pub reached :
+    (o : Opening) (calls : List Call) → isRefusedOpening o ≡ false → AllInRange calls →
+    Reached o calls (tableFrom (opened o .table) calls) (afterAll o [] calls)
+reached o calls taken ranges = record { taken = taken; ranges = ranges; table-is = refl; rows-are = refl }

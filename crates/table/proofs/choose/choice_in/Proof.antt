@@ -15,7 +15,7 @@ returns : tie.Need-returns
 returns c =
     let x = c .before .before .args in
     let leading-place = c .before .leading-place in
-    led-none (biasedLate (x .rate) (x .at) (x .arrival)) (x .arrival) (heldIn 64 (x .word)) (x .t2)
+    led-none (biasedLate (x .rate) (x .at)) (heldIn 64 (x .word)) (x .t2)
     (rowsAt (x .word) (x .t2))
     (leading-place .result)
     (leading-place .ensures (heldIn 64 (x .word)))
@@ -38,7 +38,7 @@ returns-2 c =
     let x = c .before .before .before .before .before .args in
     let leading-place = c .before .before .before .before .leading-place in
     let count-held = c .before .count-held in
-    led-one (biasedLate (x .rate) (x .at) (x .arrival)) (x .arrival) (heldIn 64 (x .word)) (x .t2)
+    led-one (biasedLate (x .rate) (x .at)) (heldIn 64 (x .word)) (x .t2)
     (rowsAt (x .word) (x .t2))
     (leading-place .result)
     (leading-place .ensures (heldIn 64 (x .word)))

@@ -25,7 +25,7 @@ returns-2 : tie.Need-returns-2
 returns-2 c =
     let x = c .before .before .before .before .args in
     let lead-of = c .before .before .lead-of in
-    let next : Lead = leadOf (x .rate) (x .at) (x .arrival) (x .place) (x .row) in
+    let next : Lead = leadOf (x .rate) (x .at) (x .place) (x .row) in
     lead-kept (x .word) (x .lead) (lead-of .result) next (c .before .before .before .if1 .left) (lead-of .ensures)
     (c .before .keeps-lead .ensures)
     (c .if2 .taken)
@@ -34,7 +34,7 @@ returns-3 : tie.Need-returns-3
 returns-3 c =
     let x = c .before .before .before .before .args in
     let lead-of = c .before .before .lead-of in
-    let next : Lead = leadOf (x .rate) (x .at) (x .arrival) (x .place) (x .row) in
+    let next : Lead = leadOf (x .rate) (x .at) (x .place) (x .row) in
     lead-lost (x .word) (x .lead) (lead-of .result) next (c .before .before .before .if1 .left) (lead-of .ensures)
     (c .before .keeps-lead .ensures)
     (c .if2 .left)

@@ -8,11 +8,11 @@ use Rattle.table.proofs.choose.leading_place.Statement.{statement}
 use Rattle.table.proofs.choose.leading_place.Tie as tie
 
 abbrev Inv-loop : tie.InvT-loop
-Inv-loop word rate at arrival members lead₀ rest₀ i₀ lead rest i =
-    (i ≤ 64) × LedSoFar rate at arrival word members lead rest i
+Inv-loop word rate at members lead₀ rest₀ i₀ lead rest i =
+    (i ≤ 64) × LedSoFar rate at word members lead rest i
 
 abbrev μ-loop : tie.MeasureT-loop
-μ-loop word rate at arrival members lead₀ rest₀ i₀ lead rest i = 64 - i
+μ-loop word rate at members lead₀ rest₀ i₀ lead rest i = 64 - i
 
 loop-holds : tie.Need-loop-holds Inv-loop μ-loop
 loop-holds c = (omega arith, led-start)

@@ -6,7 +6,8 @@ use lib.ListN.{length, getD}
 use native.Mathlib.Omega.{arith}
 use borrow.Author.Needs.{needs}
 use Rattle.register.specs.Register.{presents, freshAt}
-use Rattle.table.specs.Members.{isFree, nowhere}
+use Rattle.places.specs.Places.{isFree}
+use Rattle.table.specs.Members.{nowhere}
 use Rattle.table.specs.Choose.{atRate}
 use Rattle.table.proofs.Words.{KeptSoFar, kept-start, kept-step, kept-end}
 use Rattle.table.proofs.choose.marks_at.Statement.{statement}
