@@ -1,6 +1,6 @@
 -- What each return of a call answers, from the tests that led there.
 use Prim.Native.Nat.{ℕ, _+_, _-_, _^_, _≤_, _<_}
-use mathlib.Core.Bool.{Bool, true, false, not, _&&_}
+use mathlib.Core.Bool.{Bool, true, false, _&&_}
 use mathlib.Core.Path.{_≡_, refl, _∙_}
 use mathlib.Core.List.{[], _∷_}
 use mathlib.Core.Logic.{⊎-elim}
@@ -14,7 +14,6 @@ use Rattle.idms.proofs.Item.{the-type}
 use Rattle.idms.specs.declared.Item.{Item}
 use Rattle.places.proofs.Laws.{lowest-free-within, lowest-free-is-free}
 use Rattle.origin.specs.declared.Origin.{Origin}
-use Rattle.origin.specs.Origins.{sameOrigin}
 use Rattle.places.specs.Places.{isHeld, lowestFree}
 use Rattle.register.specs.declared.Record.{Record}
 use Rattle.register.specs.declared.Reading.{Reading}
@@ -30,7 +29,9 @@ use Rattle.table.specs.Members.{openingOf, emptyTable, vacant, nowhere, 
 use Rattle.table.specs.Calls.{
   opened,
   isMember,
+  elsewhereAt,
   isElsewhere,
+  noRoomAt,
   isWithoutRoom,
   numberOf,
   withHeld,
@@ -94,12 +95,12 @@ module _ (t : Table) (source place : ℕ) (e : place ≡ placeIn t source) where
   -- what the search and the record at the place say of an origin
   pub elsewhere-there :
       (origin : Origin) → (b : Bool) →
-      b ≡ (ltb place 64 && not (sameOrigin (getD (t .members) place nowhere .origin) origin)) →
+      b ≡ elsewhereAt (t .members) place origin →
       b ≡ isElsewhere t source origin
   elsewhere-there origin b h = rw e at h
 
   pub without-room-there :
-      (b : Bool) → b ≡ (not (ltb place 64) && eqb (lowestFree 64 (t .held)) 64) → b ≡ isWithoutRoom t source
+      (b : Bool) → b ≡ noRoomAt place (t .held) → b ≡ isWithoutRoom t source
   without-room-there b h = rw e at h
 
 -- ---- a farewell
@@ -133,8 +134,8 @@ module _ (t : Table) (x : Record) (at : Reading) where
   -- the number, from what the search says of the report's source
   pub report-number-there :
       (place : ℕ) → (elsewhere noRoom : Bool) → (n : ℕ) → place ≡ placeIn t (x .source) →
-      elsewhere ≡ (ltb place 64 && not (sameOrigin (getD (t .members) place nowhere .origin) (x .origin))) →
-      noRoom ≡ (not (ltb place 64) && eqb (lowestFree 64 (t .held)) 64) →
+      elsewhere ≡ elsewhereAt (t .members) place (x .origin) →
+      noRoom ≡ noRoomAt place (t .held) →
       n ≡ reportChecks (openingOf t) x at elsewhere noRoom →
       n ≡ numberOf t (Call.report x at)
   unfolding numberOf

@@ -1,7 +1,7 @@
 pub mod Seats
+pub mod Agreement
 pub mod Places
 pub mod Cases
 pub mod Words
 pub mod Leading
 pub mod Biased
-pub mod Demand

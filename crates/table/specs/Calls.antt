@@ -7,7 +7,7 @@ use Rattle.origin.specs.declared.Origin.{Origin}
 use Rattle.origin.specs.Origins.{sameOrigin}
 use Rattle.places.specs.Places.{lowestFree}
 use Rattle.register.specs.declared.Record.{Record}
-use Rattle.register.specs.Register.{Opening, Call, isRefusedOpening, reportChecks, farewellChecks, freshAt}
+use Rattle.register.specs.Register.{Opening, Rows, Call, isRefusedOpening, reportChecks, farewellChecks, freshAt}
 use Rattle.table.specs.declared.Table.{Table}
 use Rattle.table.specs.declared.Answered.{Answered}
 use Rattle.table.specs.Members.{openingOf, emptyTable, nowhere, placeIn, keepWord}
@@ -26,14 +26,21 @@ opened o = cond (isRefusedOpening o) (record { number = 12; table = noTable }) (
 abbrev pub isMember : Table → ℕ → Bool
 isMember t source = ltb (placeIn t source) 64
 
+-- a member stands at a place, with another origin
+abbrev pub elsewhereAt : Rows → ℕ → Origin → Bool
+elsewhereAt members place origin = ltb place 64 && not (sameOrigin (getD members place nowhere .origin) origin)
+
 -- the number's member has another origin
 abbrev pub isElsewhere : Table → ℕ → Origin → Bool
-isElsewhere t source origin =
-    isMember t source && not (sameOrigin (getD (t .members) (placeIn t source) nowhere .origin) origin)
+isElsewhere t source origin = elsewhereAt (t .members) (placeIn t source) origin
+
+-- no member stands at a place, and 64 places are held
+abbrev pub noRoomAt : ℕ → ℕ → Bool
+noRoomAt place held = not (ltb place 64) && eqb (lowestFree 64 held) 64
 
 -- a new member, and 64 places held
 abbrev pub isWithoutRoom : Table → ℕ → Bool
-isWithoutRoom t source = not (isMember t source) && eqb (lowestFree 64 (t .held)) 64
+isWithoutRoom t source = noRoomAt (placeIn t source) (t .held)
 
 -- ---- what a call answers
 

@@ -1,8 +1,8 @@
 -- The member table (document 01): 64 places, of which a single word marks those held, its lowest digit the first place.
-use Prim.Native.Nat.{ℕ, _+_, _*_, _/_, _%_}
+use Prim.Native.Nat.{ℕ, _+_, _*_, _/_}
 use mathlib.Core.Bool.{Bool, true, false, not, cond, _&&_}
 use mathlib.Core.List.{List, [], _∷_}
-use lib.Dec.{ltb, eqb}
+use lib.Dec.{ltb}
 use lib.ListN.{getD, replicate}
 use Rattle.places.specs.Places.{isFree, isHeld, heldIn}
 use Rattle.register.specs.declared.Record.{Record}

@@ -7,10 +7,10 @@ use times::is_badly_presented;
 use times::is_far;
 ghost use mathlib.Core.Path.{_≡_};
 ghost use mathlib.Core.Bool.{not, _&&_};
-ghost use lib.Dec.{ltb, eqb};
-ghost use Rattle.places.specs.Places.{lowestFree};
+ghost use lib.Dec.{eqb};
 ghost use Rattle.times.specs.Times.{isBadlyPresented};
 ghost use Rattle.register.specs.Register.{isRefusedOpening, reportChecks};
+ghost use Rattle.table.specs.Calls.{noRoomAt};
 
 // The refusals of the member table, by document 01's numbers.
 pub(crate) const BAD_OPENING: u64 = 12;
@@ -47,7 +47,7 @@ pub(crate) fn is_refused_opening(group: u32, rate: u32) -> bool
 
 // Whether a source without a place finds all places held.
 pub(crate) fn is_without_room(place: usize, held: u64) -> bool
-    ensures { λ r. ⌜ r ≡ (not (ltb place 64) && eqb (lowestFree 64 held) 64) ⌝ }
+    ensures { λ r. ⌜ r ≡ noRoomAt place held ⌝ }
 {
     if place < 64 {
         return false;

@@ -5,11 +5,11 @@ use register::Record;
 ghost use mathlib.Core.Path.{_≡_};
 ghost use mathlib.Core.Bool.{true, not, _&&_};
 ghost use Prim.Native.Nat.{_≤_, _<_};
-ghost use lib.Dec.{ltb, eqb};
+ghost use lib.Dec.{eqb};
 ghost use lib.ListN.{getD};
-ghost use Rattle.origin.specs.Origins.{sameOrigin};
 ghost use Rattle.places.specs.Places.{isFree, isHeld};
 ghost use Rattle.table.specs.Members.{nowhere, placeOf};
+ghost use Rattle.table.specs.Calls.{elsewhereAt};
 
 // Whether the word's first place is held, by a member of this number.
 fn is_held_by(word: u64, number: u32, source: u32) -> bool
@@ -47,7 +47,7 @@ pub(crate) fn member_of(members: [Record; 64], place: usize) -> Record
 
 // Whether a member stands at a place, with another origin.
 pub(crate) fn is_elsewhere(members: [Record; 64], place: usize, origin: Origin) -> bool
-    ensures { λ r. ⌜ r ≡ (ltb place 64 && not (sameOrigin (getD members place nowhere .origin) origin)) ⌝ }
+    ensures { λ r. ⌜ r ≡ elsewhereAt members place origin ⌝ }
 {
     if 64 <= place {
         return false;

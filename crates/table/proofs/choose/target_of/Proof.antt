@@ -1,4 +1,5 @@
 -- Each field from the member's own report.
+use mathlib.Core.Path.{refl}
 use borrow.Author.Needs.{needs}
 use Rattle.table.proofs.choose.target_of.Statement.{statement}
 use Rattle.table.proofs.choose.target_of.Tie as tie
@@ -7,7 +8,7 @@ presented-of-requires : tie.Need-presented-of-requires
 presented-of-requires c κs = search needs
 
 returns : tie.Need-returns
-returns c = let e : _ = c .presented-of .ensures in cc
+returns c = rw (c .presented-of .ensures) refl
 
 pub target-of-spec : {M : Type 1} → statement M
 target-of-spec = tie.close (tie.spec presented-of-requires returns)

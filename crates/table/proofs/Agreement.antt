@@ -1,3 +1,3 @@
-pub mod Agreement
+pub mod Calls
 pub mod Following
 pub mod Theorem

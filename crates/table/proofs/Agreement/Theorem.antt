@@ -25,8 +25,8 @@ use Rattle.table.specs.Calls.{opened, answered}
 use Rattle.table.specs.Choose.{choiceOf}
 use Rattle.table.specs.History.{answersFrom, tableFrom, Agree, Reached, Demand3}
 use Rattle.table.proofs.Seats.{rows-none, member-at-place, place-of-member}
-use Rattle.table.proofs.Demand.Agreement.{Holds, rows-count, number-same, answered-holds}
-use Rattle.table.proofs.Demand.Following.{choice-of-members}
+use Rattle.table.proofs.Agreement.Calls.{Holds, rows-count, number-same, answered-holds}
+use Rattle.table.proofs.Agreement.Following.{choice-of-members}
 
 -- ---- opening
 
