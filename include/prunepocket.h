@@ -1,11 +1,12 @@
 /*
  * prunepocket: reads and writes RTCP for inter-destination media
- * synchronization (IDMS, RFC 7272).
+ * synchronization (IDMS, RFC 7272), and holds the member table of a
+ * synchronization group, which chooses the target.
  *
  * Link with libprunepocket.a. Every function takes any arguments that C can
  * pass truthfully (a pointer and the number of elements behind it), answers
- * every datagram, allocates nothing, keeps nothing between calls and may be
- * called from any thread.
+ * every datagram and every table, allocates nothing, keeps nothing between
+ * calls and may be called from any thread.
  *
  * A pointer may not be null. Where an array is empty, pass the address of any
  * object and the length 0. Two pointers that are passed to one call must not
@@ -23,9 +24,10 @@ extern "C" {
 
 /* ---- Refusals -----------------------------------------------------------
  *
- * Each call answers a refusal: its number, and the byte of the datagram at
- * which it was met. Number 0 with place 0 says that the call was not refused.
- * After any other number, the memory that was lent to the call is as before.
+ * Each reader and writer answers a refusal: its number, and the byte of the
+ * datagram at which it was met. Number 0 with place 0 says that the call was not
+ * refused. After any other number, the memory that was lent to the call is as
+ * before. The calls of the member table answer a number alone, 0 or 12 to 20.
  */
 struct prunepocket_refusal {
     uint64_t number;
@@ -45,6 +47,16 @@ struct prunepocket_refusal {
 #define PRUNEPOCKET_NO_SUCH_ITEM 9    /* item index not below the item count, or a field that the item does not have; place 0 */
 #define PRUNEPOCKET_SHORT_BUFFER 10   /* lent array or buffer too short; place 0 */
 #define PRUNEPOCKET_OUT_OF_RANGE 11   /* a field to be written is out of range; place 0 */
+/* Numbers 12 to 20 are of the member table, and have no place. */
+#define PRUNEPOCKET_BAD_OPENING 12     /* group is 0 or 4294967295, or the rate is outside of 1 to 192,000: there is no table */
+#define PRUNEPOCKET_OTHER_STREAM 13    /* report of another group or media source than the table's */
+#define PRUNEPOCKET_OTHER_ORIGIN 14    /* source number is held by another origin: a twin */
+#define PRUNEPOCKET_RECEIVED_FAR 15    /* received time is not within 30 s at or before the sender's reading */
+#define PRUNEPOCKET_RTP_AGED 16        /* RTP age is above 60 seconds of the media clock */
+#define PRUNEPOCKET_BADLY_PRESENTED 17 /* presentation delay is over 30 s, or the expanded presentation is 0; where P is 1 alone */
+#define PRUNEPOCKET_NO_ROOM 18         /* report of a new member, and all 64 places are held */
+#define PRUNEPOCKET_NO_MEMBER 19       /* farewell from a source number that is not held */
+#define PRUNEPOCKET_NONE_FRESH 20      /* no fresh member to follow: there is no target */
 
 /* ---- Items --------------------------------------------------------------
  *
@@ -131,6 +143,184 @@ struct prunepocket_refusal prunepocket_write_settings(uint32_t sender, uint32_t 
                                                       uint32_t rtp, uint64_t presented,
                                                       uint8_t *buffer, size_t length,
                                                       uint64_t *written);
+
+/* ---- Member table -------------------------------------------------------
+ *
+ * A table holds the members of one synchronization group, at most one for each
+ * source number, and chooses the member that all are to follow.
+ *
+ * A host keeps one struct prunepocket_table. It passes the table to a call by
+ * value, and takes the one that is handed back in its place:
+ *
+ *     struct prunepocket_answered answered = prunepocket_open(42, 7, 90000);
+ *     if (answered.number == PRUNEPOCKET_ACCEPTED)
+ *         table = answered.table;
+ *
+ *     answered = prunepocket_report(table, record, reading);
+ *     table = answered.table;
+ *
+ * After a refusal the table handed back equals the one that was passed (bytes
+ * of padding may differ), so that it may be taken in every case. Opening alone
+ * is otherwise: refused with 12, it gives no table. What it then hands back
+ * stands for none and is not to be passed on; look at the number first.
+ *
+ * For each item that a reader gives, the host files a report, or calls
+ * prunepocket_farewell with a farewell's source, under the origin that the
+ * datagram came from. What is chosen goes to the members by
+ * prunepocket_write_settings.
+ *
+ * No call writes to the table that it was passed: it gets a copy. Nothing is
+ * kept between calls, so two threads may use two tables at a time. Where
+ * threads share one table, the host makes them wait for each other, from the
+ * passing of the table until the one handed back has been taken.
+ *
+ * Every call answers whatever it is passed. A table that C has written on still
+ * gets a defined answer from every call, though not that of the reports,
+ * farewells and sweeps before.
+ */
+#define PRUNEPOCKET_PLACES 64 /* places of a table: as many members as there can be */
+
+/*
+ * Where a datagram came from. Two origins are equal when all eighteen bytes of
+ * address and port are. A source number belongs to the origin that holds it;
+ * another origin with the same number, a twin, is refused with 14 and never
+ * alters the member. Two units behind one address and port cannot be told apart.
+ */
+struct prunepocket_origin {
+    uint8_t address[16]; /* The IPv6 address in network order; an IPv4 address is carried as its IPv4-mapped sixteen bytes, ::ffff:a.b.c.d. */
+    uint16_t port;       /* The UDP port, in the host's byte order. */
+};
+
+/*
+ * The fields of a report, as the reader gives them. The sender is not among
+ * them: it is the source of the record.
+ */
+struct prunepocket_report_fields {
+    uint64_t received;     /* The packet received NTP timestamp, in units of 2^-32 s. */
+    uint32_t group;        /* The media stream correlation identifier, which is the group. */
+    uint32_t media_source; /* The SSRC of the media source. */
+    uint32_t rtp;          /* The packet received RTP timestamp. */
+    uint32_t presented;    /* The packet presented NTP timestamp, in units of 2^-16 s; where P is 0 it is not looked at. */
+    uint8_t payload_type;  /* The payload type, which is kept and not looked at. */
+    uint8_t p;             /* P is 0 or 1: any value but 0 counts as P 1, and is kept as it was given. */
+};
+
+/* A report under its source number and its origin: what the table is told, and what it holds. */
+struct prunepocket_record {
+    uint32_t source;                         /* The source number, which is the SSRC of the report's sender. */
+    struct prunepocket_origin origin;        /* Where the report came from. */
+    struct prunepocket_report_fields report; /* The fields of the report. */
+};
+
+/* A reading of both of the sender's clocks at one moment. */
+struct prunepocket_reading {
+    uint64_t ntp; /* The NTP time N, in units of 2^-32 s. */
+    uint32_t rtp; /* The RTP time R of the media clock. */
+};
+
+/* The member to follow, with the settings from its own report. */
+struct prunepocket_target {
+    uint32_t source;       /* The member's source number. */
+    uint32_t group;        /* The group of its report. */
+    uint32_t media_source; /* The media source of its report. */
+    uint64_t received;     /* The received time of its report. */
+    uint32_t rtp;          /* The RTP time of its report. */
+    uint64_t presented;    /* The presented time of its report, expanded to a full time, or 0 in arrival mode. */
+    uint32_t counted;      /* How many members were counted, the chosen one among them. */
+};
+
+/*
+ * A member table of 3,608 bytes. Its fields are the table's own: C passes the
+ * struct from call to call and does not look inside. prunepocket_members and
+ * prunepocket_member_at say what it holds.
+ */
+struct prunepocket_table {
+    uint32_t group;                                        /* The group that it was opened for. */
+    uint32_t media_source;                                 /* The media source that it was opened for. */
+    uint32_t rate;                                         /* The clock rate that it was opened for. */
+    uint64_t held;                                         /* The places held, the first as the lowest bit. */
+    struct prunepocket_record members[PRUNEPOCKET_PLACES]; /* The member at each place held; at others, anything. */
+};
+
+/* What opening, a report, a farewell and a sweep answer. */
+struct prunepocket_answered {
+    uint64_t number;                /* The refusal's number, or 0 that there is none. */
+    struct prunepocket_table table; /* The table afterwards: after a refusal equal to the one passed, after 12 none. */
+};
+
+/* What stands at a place. */
+struct prunepocket_seat {
+    uint32_t held;                    /* 1 where a member stands there, else 0. */
+    struct prunepocket_record member; /* The member with its last accepted report, or zeros where there is none. */
+};
+
+/* What choosing answers. */
+struct prunepocket_followed {
+    uint64_t number;                  /* The refusal's number, or 0 that there is none. */
+    struct prunepocket_target target; /* The target, or zeros after a refusal. */
+    struct prunepocket_table table;   /* The table as it was. */
+};
+
+/*
+ * Opens a table without members for a group, a media source and a clock rate in
+ * ticks a second.
+ * Refusals: 12 where group is 0 or 4294967295, or rate is outside of 1 to
+ * 192,000; what is handed back then stands for no table.
+ */
+struct prunepocket_answered prunepocket_open(uint32_t group, uint32_t media_source, uint32_t rate);
+
+/*
+ * Takes a report that arrived at the sender's reading. Accepted, it stands in
+ * place of the member's report before, also where its received time is earlier;
+ * a new member takes the lowest free place.
+ * Refusals, in this order: 13 where group or media source are not the table's;
+ * 14 where another origin holds the source number; 15 where it was received
+ * after the reading, or more than 30 s before it; 16 where its RTP time is after
+ * the reading's, or more than 60 seconds of media clock before it; 17 where P is
+ * 1 and it is presented more than 30 s after it was received, or at the full
+ * time 0; 18 where it is a new member's and all places are held. All times wrap.
+ */
+struct prunepocket_answered prunepocket_report(struct prunepocket_table table,
+                                               struct prunepocket_record record,
+                                               struct prunepocket_reading reading);
+
+/*
+ * Takes a farewell of a source number: the member is removed if this origin
+ * holds the number.
+ * Refusals: 19 where no member has the number; 14 where another origin holds it.
+ */
+struct prunepocket_answered prunepocket_farewell(struct prunepocket_table table, uint32_t source,
+                                                 struct prunepocket_origin origin);
+
+/*
+ * Removes every member that is not fresh at the reading: 15 or 16 would be
+ * given there for the report that it stands on.
+ * Refusals: none, the number is 0.
+ */
+struct prunepocket_answered prunepocket_sweep(struct prunepocket_table table,
+                                              struct prunepocket_reading reading);
+
+/*
+ * Answers how many members there are, fresh or not.
+ * Refusals: none.
+ */
+uint32_t prunepocket_members(struct prunepocket_table table);
+
+/*
+ * Answers who stands at a place, from 0 to 63. No member stands at any other.
+ * Refusals: none, held is 0 where no member stands there.
+ */
+struct prunepocket_seat prunepocket_member_at(struct prunepocket_table table, size_t place);
+
+/*
+ * Chooses the member to follow at the reading, and hands the table back as it
+ * was. Counted are the fresh members whose report has P 1; where there are none,
+ * all fresh members, by arrival (arrival mode). The one that presents latest is
+ * chosen; among equals, the lowest source number.
+ * Refusals: 20 where no member is fresh.
+ */
+struct prunepocket_followed prunepocket_choose(struct prunepocket_table table,
+                                               struct prunepocket_reading reading);
 
 #ifdef __cplusplus
 }

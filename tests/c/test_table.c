@@ -1,0 +1,1404 @@
+/*
+ * Calls every function of the member table in prunepocket.h. Holds each struct of C to the bytes
+ * that the archive writes, each answer to the papers' cases, and each table after a refusal to the
+ * one before, field by field, padding aside. The table's own fields are looked at here alone: a
+ * host does not.
+ */
+#include "check.h"
+
+#include <string.h>
+
+typedef struct prunepocket_origin origin_t;
+typedef struct prunepocket_record record_t;
+typedef struct prunepocket_reading reading_t;
+typedef struct prunepocket_target target_t;
+typedef struct prunepocket_table table_t;
+typedef struct prunepocket_answered answered_t;
+typedef struct prunepocket_seat seat_t;
+typedef struct prunepocket_followed followed_t;
+
+#define CASE(text) (line = __LINE__, name = (text))
+
+#define LENGTH(array) (sizeof(array) / sizeof *(array))
+
+/* ---- Values ---------------------------------------------------------------------------------- */
+
+#define GROUP 42
+#define MEDIA 7
+#define RATE 90000
+
+/* A full time of whole seconds, and the short time of as many. */
+#define SECONDS(n) ((uint64_t)(n) << 32)
+#define SHORT_SECONDS(n) ((uint32_t)(n) << 16)
+
+/* N and R of the cases. */
+static const reading_t now = {SECONDS(1000), 9000000};
+
+/* The unit at 192.0.2.host. */
+static origin_t unit(uint8_t host)
+{
+    return (origin_t){{0, 0, 0, 0, 0, 0, 0, 0, 0, 0, 0xFF, 0xFF, 192, 0, 2, host}, 5005};
+}
+
+static record_t p1(void)
+{
+    return (record_t){10, unit(10), {SECONDS(999), GROUP, MEDIA, 8910000, 0x03E78000, 33, 1}};
+}
+
+static record_t p2(void)
+{
+    return (record_t){20, unit(20), {SECONDS(998), GROUP, MEDIA, 8820000, 0x03E6C000, 33, 1}};
+}
+
+/* A report of some source without presentation, received at N and R of the cases. */
+static record_t arrival(uint32_t source)
+{
+    return (record_t){source, unit(30), {SECONDS(1000), GROUP, MEDIA, 9000000, 0, 33, 0}};
+}
+
+/* ---- Equality, padding aside ----------------------------------------------------------------- */
+
+#define SAME(field) (memcmp(&a->field, &b->field, sizeof a->field) == 0)
+
+static int same_record(const record_t *a, const record_t *b)
+{
+    return SAME(source) && SAME(origin) && SAME(report.received) && SAME(report.group) &&
+           SAME(report.media_source) && SAME(report.rtp) && SAME(report.presented) &&
+           SAME(report.payload_type) && SAME(report.p);
+}
+
+static int same_table(const table_t *a, const table_t *b)
+{
+    for (size_t i = 0; i < PRUNEPOCKET_PLACES; i++) {
+        if (!same_record(&a->members[i], &b->members[i]))
+            return 0;
+    }
+    return SAME(group) && SAME(media_source) && SAME(rate) && SAME(held);
+}
+
+static int same_target(const target_t *a, const target_t *b)
+{
+    return SAME(source) && SAME(group) && SAME(media_source) && SAME(received) && SAME(rtp) &&
+           SAME(presented) && SAME(counted);
+}
+
+static void check_true(const char *what, int truth)
+{
+    check_equal(what, truth != 0, 1);
+}
+
+/* ---- One call -------------------------------------------------------------------------------- */
+
+/* Opening is accepted, and the table is without members. */
+static table_t open_table(uint32_t group, uint32_t media, uint32_t rate)
+{
+    answered_t answered = prunepocket_open(group, media, rate);
+
+    check_equal("open: number", answered.number, PRUNEPOCKET_ACCEPTED);
+    check_equal("open: members", prunepocket_members(answered.table), 0);
+    return answered.table;
+}
+
+/* The table of the cases. */
+static table_t opened(void)
+{
+    return open_table(GROUP, MEDIA, RATE);
+}
+
+/* The table after a report, which gets this number. */
+static table_t report(table_t table, record_t record, reading_t reading, uint64_t number)
+{
+    answered_t answered = prunepocket_report(table, record, reading);
+
+    check_equal("report: number", answered.number, number);
+    if (number != PRUNEPOCKET_ACCEPTED)
+        check_true("report: the table as before", same_table(&answered.table, &table));
+    return answered.table;
+}
+
+/* The table after a farewell, which gets this number. */
+static table_t farewell(table_t table, uint32_t source, origin_t origin, uint64_t number)
+{
+    answered_t answered = prunepocket_farewell(table, source, origin);
+    uint32_t before = prunepocket_members(table);
+
+    check_equal("farewell: number", answered.number, number);
+    if (number != PRUNEPOCKET_ACCEPTED)
+        check_true("farewell: the table as before", same_table(&answered.table, &table));
+    else
+        check_equal("farewell: members", prunepocket_members(answered.table), before - 1);
+    return answered.table;
+}
+
+/* The table after a sweep, which leaves so many members. */
+static table_t sweep(table_t table, reading_t reading, uint32_t members)
+{
+    answered_t answered = prunepocket_sweep(table, reading);
+
+    check_equal("sweep: number", answered.number, PRUNEPOCKET_ACCEPTED);
+    check_equal("sweep: members", prunepocket_members(answered.table), members);
+    return answered.table;
+}
+
+/* The member at a place stands on this record. */
+static void check_member(table_t table, size_t place, record_t record)
+{
+    seat_t seat = prunepocket_member_at(table, place);
+
+    check_equal("member_at: held", seat.held, 1);
+    check_true("member_at: member", same_record(&seat.member, &record));
+}
+
+static void check_vacant(table_t table, size_t place)
+{
+    static const record_t zeros;
+    seat_t seat = prunepocket_member_at(table, place);
+
+    check_equal("member_at: not held", seat.held, 0);
+    check_true("member_at: zeros", same_record(&seat.member, &zeros));
+}
+
+/* The target, and the table is as before. */
+static target_t choose(table_t table, reading_t reading)
+{
+    followed_t followed = prunepocket_choose(table, reading);
+
+    check_equal("choose: number", followed.number, PRUNEPOCKET_ACCEPTED);
+    check_true("choose: the table as before", same_table(&followed.table, &table));
+    return followed.target;
+}
+
+static void check_none_fresh(table_t table, reading_t reading)
+{
+    static const target_t zeros;
+    followed_t followed = prunepocket_choose(table, reading);
+
+    check_equal("choose: number", followed.number, PRUNEPOCKET_NONE_FRESH);
+    check_true("choose: target of zeros", same_target(&followed.target, &zeros));
+    check_true("choose: the table as before", same_table(&followed.table, &table));
+}
+
+static void check_target(target_t got, target_t expected)
+{
+    check_equal("target: source", got.source, expected.source);
+    check_equal("target: group", got.group, expected.group);
+    check_equal("target: media source", got.media_source, expected.media_source);
+    check_equal("target: received", got.received, expected.received);
+    check_equal("target: RTP", got.rtp, expected.rtp);
+    check_equal("target: presented", got.presented, expected.presented);
+    check_equal("target: counted", got.counted, expected.counted);
+}
+
+/* Who is chosen, and how many are counted. */
+static void check_chosen(table_t table, reading_t reading, uint32_t source, uint32_t counted)
+{
+    target_t target = choose(table, reading);
+
+    check_equal("chosen", target.source, source);
+    check_equal("counted", target.counted, counted);
+}
+
+/* The lateness of a target's three times, in units of 1/(rate * 2^32) s. */
+static int64_t lateness(target_t target, uint32_t rate, reading_t reading)
+{
+    uint64_t delay = target.presented == 0 ? 0 : target.presented - target.received;
+    uint64_t ntp_age = reading.ntp - target.received;
+    uint32_t rtp_age = reading.rtp - target.rtp;
+
+    return (int64_t)rate * ((int64_t)delay - (int64_t)ntp_age) + (int64_t)SECONDS(rtp_age);
+}
+
+static void check_lateness(target_t target, uint32_t rate, reading_t reading, int64_t expected)
+{
+    check_equal("lateness", (uint64_t)lateness(target, rate, reading), (uint64_t)expected);
+}
+
+/* ---- Layout ---------------------------------------------------------------------------------- */
+
+#define SIZE(type, size) check_equal("size of " #type, sizeof(type), size)
+
+#define FIELD(type, field, offset, size) \
+    (check_equal("offset of " #field, offsetof(type, field), offset), \
+     check_equal("size of " #field, sizeof((type *)NULL)->field, size))
+
+static void test_small_layouts(void)
+{
+    CASE("layout of an origin");
+    SIZE(origin_t, 18);
+    FIELD(origin_t, address, 0, 16);
+    FIELD(origin_t, port, 16, 2);
+
+    CASE("layout of the report fields");
+    SIZE(struct prunepocket_report_fields, 32);
+    FIELD(struct prunepocket_report_fields, received, 0, 8);
+    FIELD(struct prunepocket_report_fields, group, 8, 4);
+    FIELD(struct prunepocket_report_fields, media_source, 12, 4);
+    FIELD(struct prunepocket_report_fields, rtp, 16, 4);
+    FIELD(struct prunepocket_report_fields, presented, 20, 4);
+    FIELD(struct prunepocket_report_fields, payload_type, 24, 1);
+    FIELD(struct prunepocket_report_fields, p, 25, 1);
+
+    CASE("layout of a record");
+    SIZE(record_t, 56);
+    FIELD(record_t, source, 0, 4);
+    FIELD(record_t, origin, 4, 18);
+    FIELD(record_t, report, 24, 32);
+
+    CASE("layout of a reading");
+    SIZE(reading_t, 16);
+    FIELD(reading_t, ntp, 0, 8);
+    FIELD(reading_t, rtp, 8, 4);
+}
+
+static void test_large_layouts(void)
+{
+    CASE("layout of a target");
+    SIZE(target_t, 48);
+    FIELD(target_t, source, 0, 4);
+    FIELD(target_t, group, 4, 4);
+    FIELD(target_t, media_source, 8, 4);
+    FIELD(target_t, received, 16, 8);
+    FIELD(target_t, rtp, 24, 4);
+    FIELD(target_t, presented, 32, 8);
+    FIELD(target_t, counted, 40, 4);
+
+    CASE("layout of a table");
+    SIZE(table_t, 3608);
+    FIELD(table_t, group, 0, 4);
+    FIELD(table_t, media_source, 4, 4);
+    FIELD(table_t, rate, 8, 4);
+    FIELD(table_t, held, 16, 8);
+    FIELD(table_t, members, 24, 64 * 56);
+}
+
+static void test_answer_layouts(void)
+{
+    CASE("layout of the answers");
+    SIZE(answered_t, 3616);
+    FIELD(answered_t, number, 0, 8);
+    FIELD(answered_t, table, 8, 3608);
+    SIZE(seat_t, 64);
+    FIELD(seat_t, held, 0, 4);
+    FIELD(seat_t, member, 8, 56);
+    SIZE(followed_t, 3664);
+    FIELD(followed_t, number, 0, 8);
+    FIELD(followed_t, target, 8, 48);
+    FIELD(followed_t, table, 56, 3608);
+}
+
+/* ---- The archive's bytes --------------------------------------------------------------------- */
+
+/* A number of some bytes within a struct. */
+struct part {
+    size_t offset;
+    size_t size;
+    uint64_t value;
+};
+
+/* The least significant byte comes first on the archive's machine. */
+static uint64_t number_at(const void *memory, size_t offset, size_t size)
+{
+    const uint8_t *bytes = memory;
+    uint64_t value = 0;
+
+    for (size_t i = size; i > 0; i--)
+        value = value << 8 | bytes[offset + i - 1];
+    return value;
+}
+
+/* A struct within memory, from its start, has these parts. */
+static void check_parts(const char *what, const void *memory, size_t start,
+                        const struct part *parts, size_t count)
+{
+    char text[80];
+
+    for (size_t i = 0; i < count; i++) {
+        snprintf(text, sizeof text, "%s: byte %zu", what, start + parts[i].offset);
+        check_equal(text, number_at(memory, start + parts[i].offset, parts[i].size),
+                    parts[i].value);
+    }
+}
+
+/* A record whose bytes nearly all differ, and where they are. */
+static const record_t distinct = {
+    0x01020304,
+    {{16, 17, 18, 19, 20, 21, 22, 23, 24, 25, 26, 27, 28, 29, 30, 31}, 0x2021},
+    {UINT64_C(0x3031323334353637), 0x40414243, 0x50515253, 0x60616263, 0x32343435, 0x71, 1},
+};
+
+static const struct part record_parts[] = {
+    {0, 4, 0x01020304},
+    {4, 8, UINT64_C(0x1716151413121110)},
+    {12, 8, UINT64_C(0x1F1E1D1C1B1A1918)},
+    {20, 2, 0x2021},
+    {24, 8, UINT64_C(0x3031323334353637)},
+    {32, 4, 0x40414243},
+    {36, 4, 0x50515253},
+    {40, 4, 0x60616263},
+    {44, 4, 0x32343435},
+    {48, 1, 0x71},
+    {49, 1, 1},
+};
+
+/* Its table, as opened and with the record; and its target. */
+static const struct part opened_parts[] = {
+    {0, 4, 0x40414243}, {4, 4, 0x50515253}, {8, 4, 0x15F90}, {16, 8, 0},
+};
+static const struct part filed_parts[] = {
+    {0, 4, 0x40414243}, {4, 4, 0x50515253}, {8, 4, 0x15F90}, {16, 8, 1},
+};
+static const struct part target_parts[] = {
+    {0, 4, 0x01020304},
+    {4, 4, 0x40414243},
+    {8, 4, 0x50515253},
+    {16, 8, UINT64_C(0x3031323334353637)},
+    {24, 4, 0x60616263},
+    {32, 8, UINT64_C(0x3031323434350000)},
+    {40, 4, 1},
+};
+
+#define CHECK_PARTS(what, memory, start, parts) \
+    check_parts(what, memory, start, parts, LENGTH(parts))
+
+/* A second after the record was received, and a tick. */
+static const reading_t distinct_reading = {UINT64_C(0x3031323434353637), 0x60616264};
+
+/* Answers stand at their exact size on the heap: valgrind sees a byte that the archive left out. */
+static void test_opened_bytes(void)
+{
+    answered_t *answered = allocate(sizeof *answered);
+
+    CASE("bytes of a table just opened");
+    *answered = prunepocket_open(0x40414243, 0x50515253, 0x15F90);
+    check_equal("number", number_at(answered, 0, 8), 0);
+    CHECK_PARTS("table", answered, 8, opened_parts);
+    for (size_t i = 0; i < PRUNEPOCKET_PLACES; i++)
+        check_vacant(answered->table, i);
+
+    CASE("bytes of a refusal");
+    *answered = prunepocket_report(answered->table, p1(), now);
+    check_equal("number", number_at(answered, 0, 8), 13);
+    CHECK_PARTS("table", answered, 8, opened_parts);
+    free(answered);
+}
+
+static void test_filed_bytes(void)
+{
+    answered_t *answered = allocate(sizeof *answered);
+    seat_t *seat = allocate(sizeof *seat);
+
+    CASE("bytes of a table with a record");
+    *answered = prunepocket_report(open_table(0x40414243, 0x50515253, 0x15F90), distinct,
+                                   distinct_reading);
+    check_equal("number", number_at(answered, 0, 8), 0);
+    CHECK_PARTS("table", answered, 8, filed_parts);
+    CHECK_PARTS("record in the table", answered, 8 + 24, record_parts);
+
+    CASE("bytes of a seat");
+    *seat = prunepocket_member_at(answered->table, 0);
+    check_equal("held", number_at(seat, 0, 4), 1);
+    CHECK_PARTS("member", seat, 8, record_parts);
+    free(seat);
+    free(answered);
+}
+
+static void test_followed_bytes(void)
+{
+    followed_t *followed = allocate(sizeof *followed);
+    table_t table;
+
+    CASE("bytes of a choice");
+    table = open_table(0x40414243, 0x50515253, 0x15F90);
+    table = report(table, distinct, distinct_reading, PRUNEPOCKET_ACCEPTED);
+    *followed = prunepocket_choose(table, distinct_reading);
+    check_equal("number", number_at(followed, 0, 8), 0);
+    CHECK_PARTS("target", followed, 8, target_parts);
+    CHECK_PARTS("table", followed, 56, filed_parts);
+    CHECK_PARTS("record in the table", followed, 56 + 24, record_parts);
+    free(followed);
+}
+
+/* ---- The papers' cases ----------------------------------------------------------------------- */
+
+/* The table of the cases with one report, accepted. */
+static table_t with_one(record_t record)
+{
+    return report(opened(), record, now, PRUNEPOCKET_ACCEPTED);
+}
+
+static table_t with_two(record_t first, record_t second)
+{
+    return report(with_one(first), second, now, PRUNEPOCKET_ACCEPTED);
+}
+
+/* The settings packet of a target, from sender 1. */
+static void check_settings(target_t target, const uint32_t *words)
+{
+    uint8_t buffer[PRUNEPOCKET_SETTINGS_BYTES];
+    uint64_t written = 0;
+    char text[80];
+
+    check_answer("settings",
+                 prunepocket_write_settings(1, target.group, target.media_source, target.received,
+                                            target.rtp, target.presented, buffer, sizeof buffer,
+                                            &written),
+                 0, 0);
+    check_equal("settings: written", written, sizeof buffer);
+    for (size_t i = 0; i < written; i++) {
+        snprintf(text, sizeof text, "settings: byte %zu", i);
+        check_equal(text, buffer[i], words[i / 4] >> (24 - 8 * (i % 4)) & 0xFF);
+    }
+}
+
+/* The target of P3. */
+static const target_t p3 = {20, GROUP, MEDIA, SECONDS(998), 8820000, UINT64_C(0x3E6C0000000), 2};
+
+static void test_p1_to_p2(void)
+{
+    target_t target;
+
+    CASE("P1");
+    target = choose(with_one(p1()), now);
+    check_target(target, (target_t){10, GROUP, MEDIA, SECONDS(999), 8910000,
+                                    UINT64_C(0x3E780000000), 1});
+    check_lateness(target, RATE, now, INT64_C(45000) * INT64_C(0x100000000));
+
+    CASE("P2");
+    target = choose(with_one(p2()), now);
+    check_target(target, (target_t){20, GROUP, MEDIA, SECONDS(998), 8820000,
+                                    UINT64_C(0x3E6C0000000), 1});
+    check_lateness(target, RATE, now, INT64_C(67500) * INT64_C(0x100000000));
+}
+
+static void test_p3_to_p4(void)
+{
+    static const uint32_t settings[] = {0x80D30008, 0x00000001, 0x00000007, 0x0000002A, 0x000003E6,
+                                        0x00000000, 0x00869520, 0x000003E6, 0xC0000000};
+    record_t tied = p1();
+
+    CASE("P3");
+    check_target(choose(with_two(p1(), p2()), now), p3);
+    check_target(choose(with_two(p2(), p1()), now), p3);
+    check_settings(choose(with_two(p1(), p2()), now), settings);
+
+    CASE("P4");
+    tied.report.presented = 0x03E7C000;
+    check_chosen(with_two(tied, p2()), now, 10, 2);
+    check_chosen(with_two(p2(), tied), now, 10, 2);
+}
+
+static void test_p6_to_p7(void)
+{
+    record_t wrapped = p1();
+    reading_t second = {SECONDS(1), 9000000};
+    target_t target;
+
+    CASE("P6");
+    wrapped.report.received = UINT64_C(0xFFFFFFFF00000000);
+    wrapped.report.rtp = 9000000;
+    wrapped.report.presented = 0x00004000;
+    target = choose(report(opened(), wrapped, second, PRUNEPOCKET_ACCEPTED), second);
+    check_equal("NTP age", second.ntp - target.received, SECONDS(2));
+    check_equal("delay", target.presented - target.received, SECONDS(5) / 4);
+    check_equal("expanded", target.presented, UINT64_C(0x40000000));
+    check_lateness(target, RATE, second, INT64_C(-67500) * INT64_C(0x100000000));
+
+    CASE("P7");
+    wrapped.report.presented = 0;
+    report(opened(), wrapped, second, PRUNEPOCKET_BADLY_PRESENTED);
+}
+
+/* P1 with one field of choice gets a number at N and R of the cases. */
+static void received_gets(uint64_t received, uint64_t number)
+{
+    record_t record = p1();
+
+    record.report.received = received;
+    report(opened(), record, now, number);
+}
+
+static void rtp_gets(uint32_t rtp, uint64_t number)
+{
+    record_t record = p1();
+
+    record.report.rtp = rtp;
+    report(opened(), record, now, number);
+}
+
+static void presented_gets(uint32_t presented, uint64_t number)
+{
+    record_t record = p1();
+
+    record.report.presented = presented;
+    report(opened(), record, now, number);
+}
+
+static void test_p8_to_p10(void)
+{
+    CASE("P8");
+    received_gets(SECONDS(970), PRUNEPOCKET_ACCEPTED);
+    received_gets(SECONDS(970) - 1, PRUNEPOCKET_RECEIVED_FAR);
+    /* It passes 15. P1's presented time is then half a second before: a delay of 65,535.5 s. */
+    received_gets(SECONDS(1000), PRUNEPOCKET_BADLY_PRESENTED);
+    received_gets(SECONDS(1000) + 1, PRUNEPOCKET_RECEIVED_FAR);
+
+    CASE("P9");
+    rtp_gets(3600000, PRUNEPOCKET_ACCEPTED);
+    rtp_gets(3599999, PRUNEPOCKET_RTP_AGED);
+    rtp_gets(9000001, PRUNEPOCKET_RTP_AGED);
+
+    CASE("P10");
+    presented_gets(0x04050000, PRUNEPOCKET_ACCEPTED);
+    presented_gets(0x04050001, PRUNEPOCKET_BADLY_PRESENTED);
+}
+
+/* ---- Twins ----------------------------------------------------------------------------------- */
+
+/* A report on which source 10 would be chosen, from another origin. */
+static record_t twin_at(origin_t origin)
+{
+    record_t twin = p1();
+
+    twin.origin = origin;
+    twin.report.presented = 0x03E7F000;
+    return twin;
+}
+
+/* The twin's report and farewell get 14, and P3 is unchanged. */
+static void check_twin(table_t table, origin_t origin)
+{
+    table_t after = report(table, twin_at(origin), now, PRUNEPOCKET_OTHER_ORIGIN);
+
+    check_target(choose(after, now), p3);
+    after = farewell(after, 10, origin, PRUNEPOCKET_OTHER_ORIGIN);
+    check_target(choose(after, now), p3);
+    check_member(after, 0, p1());
+    check_member(after, 1, p2());
+    check_equal("members", prunepocket_members(after), 2);
+    check_true("the table as before the twin", same_table(&after, &table));
+}
+
+static void test_twins(void)
+{
+    table_t table;
+    origin_t origin = unit(10);
+
+    CASE("source 10 from a second port");
+    table = with_two(p1(), p2());
+    origin.port = 5006;
+    check_twin(table, origin);
+
+    CASE("source 10 from a second address");
+    check_twin(table, unit(11));
+
+    CASE("source 10 from the unit that holds 20");
+    check_twin(table, unit(20));
+
+    CASE("the twin's report from the holder itself");
+    check_chosen(report(table, twin_at(unit(10)), now, PRUNEPOCKET_ACCEPTED), now, 10, 2);
+}
+
+/* Each of the 144 bits of an origin counts. */
+static void test_near_twins(void)
+{
+    table_t table;
+
+    CASE("origins that differ in one bit");
+    table = with_two(p1(), p2());
+    for (size_t bit = 0; bit < 144; bit++) {
+        origin_t origin = unit(10);
+
+        if (bit < 128)
+            origin.address[bit / 8] ^= (uint8_t)(1u << bit % 8);
+        else
+            origin.port ^= (uint16_t)(1u << (bit - 128));
+        check_twin(table, origin);
+    }
+}
+
+static void test_twin_after_farewell(void)
+{
+    table_t table;
+
+    CASE("the twin takes the number that its holder left");
+    table = with_two(p1(), p2());
+    table = farewell(table, 10, unit(10), PRUNEPOCKET_ACCEPTED);
+    check_vacant(table, 0);
+    check_member(table, 1, p2());
+    table = report(table, twin_at(unit(11)), now, PRUNEPOCKET_ACCEPTED);
+    check_member(table, 0, twin_at(unit(11)));
+    table = report(table, p1(), now, PRUNEPOCKET_OTHER_ORIGIN);
+    farewell(table, 10, unit(10), PRUNEPOCKET_OTHER_ORIGIN);
+
+    CASE("one origin holds two numbers");
+    table = report(table, arrival(20), now, PRUNEPOCKET_OTHER_ORIGIN);
+    table = report(table, arrival(30), now, PRUNEPOCKET_ACCEPTED);
+    table = report(table, arrival(31), now, PRUNEPOCKET_ACCEPTED);
+    check_equal("members", prunepocket_members(table), 4);
+    table = farewell(table, 30, unit(30), PRUNEPOCKET_ACCEPTED);
+    check_member(table, 3, arrival(31));
+}
+
+/* ---- Places ---------------------------------------------------------------------------------- */
+
+/* Sources 100 to 163, at the places 0 to 63. */
+static table_t full_table(void)
+{
+    table_t table = opened();
+
+    for (uint32_t i = 0; i < PRUNEPOCKET_PLACES; i++) {
+        table = report(table, arrival(100 + i), now, PRUNEPOCKET_ACCEPTED);
+        check_equal("members", prunepocket_members(table), i + 1);
+    }
+    return table;
+}
+
+static void test_full_table(void)
+{
+    table_t table;
+
+    CASE("sixty-four members");
+    table = full_table();
+    for (uint32_t i = 0; i < PRUNEPOCKET_PLACES; i++) {
+        check_member(table, i, arrival(100 + i));
+        check_equal("source in the table", number_at(&table, 24 + 56 * i, 4), 100 + i);
+    }
+    check_chosen(table, now, 100, 64);
+    report(table, p1(), now, PRUNEPOCKET_NO_ROOM);
+
+    CASE("a member's next report, where all places are held");
+    table = report(table, arrival(163), now, PRUNEPOCKET_ACCEPTED);
+    check_equal("members", prunepocket_members(table), 64);
+
+    CASE("no member stands behind the last place");
+    check_vacant(table, 64);
+    check_vacant(table, 127);
+    check_vacant(table, 128);
+    check_vacant(table, (size_t)1 << 32);
+    check_vacant(table, SIZE_MAX);
+}
+
+static void test_freed_places(void)
+{
+    table_t table;
+
+    CASE("the 65th after a farewell");
+    table = full_table();
+    table = farewell(table, 117, unit(30), PRUNEPOCKET_ACCEPTED);
+    check_vacant(table, 17);
+    table = report(table, p1(), now, PRUNEPOCKET_ACCEPTED);
+    check_member(table, 17, p1());
+    report(table, p2(), now, PRUNEPOCKET_NO_ROOM);
+
+    CASE("the lowest of two free places is taken first");
+    table = farewell(table, 105, unit(30), PRUNEPOCKET_ACCEPTED);
+    table = farewell(table, 163, unit(30), PRUNEPOCKET_ACCEPTED);
+    table = report(table, p2(), now, PRUNEPOCKET_ACCEPTED);
+    check_member(table, 5, p2());
+    check_vacant(table, 63);
+    table = report(table, arrival(200), now, PRUNEPOCKET_ACCEPTED);
+    check_member(table, 63, arrival(200));
+    check_equal("members", prunepocket_members(table), 64);
+}
+
+static void test_farewells(void)
+{
+    table_t table;
+
+    CASE("a farewell from a number that is not held");
+    table = with_two(p1(), p2());
+    farewell(opened(), 10, unit(10), PRUNEPOCKET_NO_MEMBER);
+    farewell(opened(), 0, (origin_t){{0}, 0}, PRUNEPOCKET_NO_MEMBER);
+    farewell(table, 11, unit(10), PRUNEPOCKET_NO_MEMBER);
+    farewell(table, 0, unit(10), PRUNEPOCKET_NO_MEMBER);
+
+    CASE("a second farewell");
+    table = farewell(table, 20, unit(20), PRUNEPOCKET_ACCEPTED);
+    check_chosen(table, now, 10, 1);
+    table = farewell(table, 20, unit(20), PRUNEPOCKET_NO_MEMBER);
+    table = farewell(table, 10, unit(10), PRUNEPOCKET_ACCEPTED);
+    check_none_fresh(table, now);
+    farewell(table, 10, unit(10), PRUNEPOCKET_NO_MEMBER);
+}
+
+/* ---- Reports --------------------------------------------------------------------------------- */
+
+/* Every check applies; they are lifted one by one. */
+static void test_order_of_a_member(void)
+{
+    table_t table;
+    record_t faulty = {10, unit(11), {SECONDS(1001), 43, 8, 9000001, 0x04050001, 33, 1}};
+
+    CASE("the order of 13 to 17");
+    table = with_one(p1());
+    report(table, faulty, now, PRUNEPOCKET_OTHER_STREAM);
+    faulty.report.group = GROUP;
+    report(table, faulty, now, PRUNEPOCKET_OTHER_STREAM);
+    faulty.report.media_source = MEDIA;
+    report(table, faulty, now, PRUNEPOCKET_OTHER_ORIGIN);
+    faulty.origin = unit(10);
+    report(table, faulty, now, PRUNEPOCKET_RECEIVED_FAR);
+    faulty.report.received = SECONDS(999);
+    report(table, faulty, now, PRUNEPOCKET_RTP_AGED);
+    faulty.report.rtp = 8910000;
+    report(table, faulty, now, PRUNEPOCKET_BADLY_PRESENTED);
+    faulty.report.presented = 0x03E78000;
+    report(table, faulty, now, PRUNEPOCKET_ACCEPTED);
+}
+
+static void test_order_of_a_new_member(void)
+{
+    table_t table;
+    record_t faulty = {10, unit(10), {SECONDS(1001), GROUP, 8, 9000001, 0x04050001, 33, 1}};
+
+    CASE("the order of 13 to 18, where all places are held");
+    table = full_table();
+    report(table, faulty, now, PRUNEPOCKET_OTHER_STREAM);
+    faulty.report.media_source = MEDIA;
+    report(table, faulty, now, PRUNEPOCKET_RECEIVED_FAR);
+    faulty.report.received = SECONDS(999);
+    report(table, faulty, now, PRUNEPOCKET_RTP_AGED);
+    faulty.report.rtp = 8910000;
+    report(table, faulty, now, PRUNEPOCKET_BADLY_PRESENTED);
+    faulty.report.presented = 0x03E78000;
+    report(table, faulty, now, PRUNEPOCKET_NO_ROOM);
+}
+
+static void test_standing_report(void)
+{
+    record_t earlier = p1();
+    record_t refused = p1();
+    table_t table;
+
+    CASE("the last accepted report stands");
+    table = with_two(p1(), p2());
+    earlier.report.received = SECONDS(998);
+    earlier.report.payload_type = 255;
+    table = report(table, earlier, now, PRUNEPOCKET_ACCEPTED);
+    check_equal("members", prunepocket_members(table), 2);
+    check_member(table, 0, earlier);
+    check_member(table, 1, p2());
+
+    CASE("a refused report does not stand");
+    refused.report.received = SECONDS(969);
+    table = report(table, refused, now, PRUNEPOCKET_RECEIVED_FAR);
+    check_member(table, 0, earlier);
+}
+
+/* P is a byte: any value but 0 counts as 1. */
+static void test_p(void)
+{
+    static const uint8_t values[] = {1, 2, 128, 255};
+    record_t record = p1();
+
+    CASE("P other than 0");
+    for (size_t i = 0; i < sizeof values; i++) {
+        record.report.p = values[i];
+        record.report.presented = 0x04050001;
+        report(opened(), record, now, PRUNEPOCKET_BADLY_PRESENTED);
+        record.report.presented = 0x03E78000;
+        check_member(with_one(record), 0, record);
+        check_equal("presented", choose(with_one(record), now).presented, UINT64_C(0x3E780000000));
+        check_chosen(with_two(record, arrival(5)), now, 10, 1);
+    }
+
+    CASE("P 0 with a presented time that would get 17");
+    record.report.p = 0;
+    record.report.presented = 0x04050001;
+    check_member(with_one(record), 0, record);
+    check_equal("presented", choose(with_one(record), now).presented, 0);
+}
+
+/* ---- Sweeps and choosing --------------------------------------------------------------------- */
+
+static void test_sweeps(void)
+{
+    table_t table;
+    table_t swept;
+
+    CASE("a sweep of fresh members");
+    table = with_two(p1(), p2());
+    swept = sweep(table, now, 2);
+    check_true("the table as before", same_table(&swept, &table));
+    swept = sweep(table, (reading_t){SECONDS(1028), 9000000}, 2);
+    check_true("the table as before", same_table(&swept, &table));
+
+    CASE("a sweep a unit after P2 was fresh");
+    swept = sweep(table, (reading_t){SECONDS(1028) + 1, 9000000}, 1);
+    check_member(swept, 0, p1());
+    check_vacant(swept, 1);
+    farewell(swept, 20, unit(20), PRUNEPOCKET_NO_MEMBER);
+    sweep(swept, (reading_t){SECONDS(1029), 9000000}, 1);
+    sweep(swept, (reading_t){SECONDS(1029) + 1, 9000000}, 0);
+
+    CASE("a sweep before P1 was received");
+    swept = sweep(table, (reading_t){SECONDS(999) - 1, 9000000}, 1);
+    check_vacant(swept, 0);
+    check_member(swept, 1, p2());
+
+    CASE("a sweep of an empty table");
+    sweep(opened(), now, 0);
+}
+
+static void test_sweeps_by_rtp(void)
+{
+    table_t table;
+
+    CASE("a sweep by the RTP age");
+    table = with_two(p1(), p2());
+    sweep(table, (reading_t){SECONDS(1000), 8820000 + 60 * RATE}, 2);
+    check_member(sweep(table, (reading_t){SECONDS(1000), 8820001 + 60 * RATE}, 1), 0, p1());
+    sweep(table, (reading_t){SECONDS(1000), 8910001 + 60 * RATE}, 0);
+    check_member(sweep(table, (reading_t){SECONDS(1000), 8909999}, 1), 1, p2());
+
+    CASE("a twin takes the number after a sweep");
+    table = sweep(table, (reading_t){SECONDS(1000), 8819999}, 0);
+    check_member(report(table, twin_at(unit(11)), now, PRUNEPOCKET_ACCEPTED), 0,
+                 twin_at(unit(11)));
+}
+
+static void test_arrival_mode(void)
+{
+    record_t first = p1();
+    record_t second = p2();
+
+    CASE("no member reports presentation");
+    first.report.p = 0;
+    second.report.p = 0;
+    check_target(choose(with_two(first, second), now),
+                 (target_t){10, GROUP, MEDIA, SECONDS(999), 8910000, 0, 2});
+    check_lateness(choose(with_two(first, second), now), RATE, now, 0);
+    second.report.rtp -= 1;
+    check_target(choose(with_two(first, second), now),
+                 (target_t){20, GROUP, MEDIA, SECONDS(998), 8819999, 0, 2});
+
+    CASE("a member that reports presentation is counted alone");
+    second.report.rtp = 3600000;
+    check_target(choose(with_two(p1(), second), now),
+                 (target_t){10, GROUP, MEDIA, SECONDS(999), 8910000, UINT64_C(0x3E780000000), 1});
+
+    CASE("the member that reports presentation is not fresh");
+    check_target(choose(with_two(first, p2()), (reading_t){SECONDS(1029), 9000000}),
+                 (target_t){10, GROUP, MEDIA, SECONDS(999), 8910000, 0, 1});
+}
+
+static void test_none_fresh(void)
+{
+    table_t table;
+
+    CASE("no fresh member to follow");
+    table = with_two(p1(), p2());
+    check_none_fresh(opened(), now);
+    check_none_fresh(table, (reading_t){SECONDS(1029) + 1, 9000000});
+    check_none_fresh(table, (reading_t){SECONDS(998) - 1, 9000000});
+    check_none_fresh(table, (reading_t){SECONDS(1000), 8910001 + 60 * RATE});
+    check_none_fresh(table, (reading_t){SECONDS(1000), 8819999});
+    check_none_fresh(table, (reading_t){0, 0});
+    check_none_fresh(table, (reading_t){UINT64_MAX, UINT32_MAX});
+
+    CASE("one is left to follow");
+    check_chosen(table, (reading_t){SECONDS(1029), 9000000}, 10, 1);
+    check_chosen(table, (reading_t){SECONDS(998), 9000000}, 20, 1);
+    check_equal("members, fresh or not", prunepocket_members(table), 2);
+}
+
+/* ---- Limits ---------------------------------------------------------------------------------- */
+
+/* 12, with nothing in the table that is handed back. */
+static void opening_refused(uint32_t group, uint32_t media, uint32_t rate)
+{
+    static const table_t zeros;
+    answered_t answered = prunepocket_open(group, media, rate);
+
+    check_equal("open: number", answered.number, PRUNEPOCKET_BAD_OPENING);
+    check_true("open: no table", same_table(&answered.table, &zeros));
+    check_equal("open: members", prunepocket_members(answered.table), 0);
+}
+
+static void test_openings(void)
+{
+    CASE("openings that are refused");
+    opening_refused(0, MEDIA, RATE);
+    opening_refused(UINT32_MAX, MEDIA, RATE);
+    opening_refused(GROUP, MEDIA, 0);
+    opening_refused(GROUP, MEDIA, 192001);
+    opening_refused(GROUP, MEDIA, UINT32_MAX);
+    opening_refused(0, 0, 0);
+    opening_refused(UINT32_MAX, UINT32_MAX, UINT32_MAX);
+
+    CASE("openings that are taken");
+    open_table(1, MEDIA, RATE);
+    open_table(UINT32_MAX - 1, MEDIA, RATE);
+    open_table(GROUP, 0, RATE);
+    open_table(GROUP, UINT32_MAX, RATE);
+    open_table(GROUP, MEDIA, 1);
+    open_table(GROUP, MEDIA, 192000);
+}
+
+/* 15 gets a report without presentation unless it was received within 30 s at or before ntp. */
+static void check_ntp_limits(uint64_t ntp)
+{
+    reading_t reading = {ntp, 9000000};
+    record_t record = arrival(10);
+
+    record.report.received = ntp - SECONDS(30);
+    check_chosen(report(opened(), record, reading, PRUNEPOCKET_ACCEPTED), reading, 10, 1);
+    record.report.received = ntp - SECONDS(30) - 1;
+    report(opened(), record, reading, PRUNEPOCKET_RECEIVED_FAR);
+    record.report.received = ntp;
+    check_chosen(report(opened(), record, reading, PRUNEPOCKET_ACCEPTED), reading, 10, 1);
+    record.report.received = ntp + 1;
+    report(opened(), record, reading, PRUNEPOCKET_RECEIVED_FAR);
+    record.report.received = ntp + (UINT64_C(1) << 63);
+    report(opened(), record, reading, PRUNEPOCKET_RECEIVED_FAR);
+}
+
+/* 16 gets a report unless its RTP time lies within 60 seconds at or before rtp. */
+static void check_rtp_limits(uint32_t rate, uint32_t rtp)
+{
+    table_t table = open_table(GROUP, MEDIA, rate);
+    reading_t reading = {SECONDS(1000), rtp};
+    record_t record = arrival(10);
+
+    record.report.rtp = rtp - 60 * rate;
+    check_chosen(report(table, record, reading, PRUNEPOCKET_ACCEPTED), reading, 10, 1);
+    record.report.rtp = rtp - 60 * rate - 1;
+    report(table, record, reading, PRUNEPOCKET_RTP_AGED);
+    record.report.rtp = rtp;
+    check_chosen(report(table, record, reading, PRUNEPOCKET_ACCEPTED), reading, 10, 1);
+    record.report.rtp = rtp + 1;
+    report(table, record, reading, PRUNEPOCKET_RTP_AGED);
+}
+
+static void test_reading_limits(void)
+{
+    static const uint64_t ntps[] = {
+        0,
+        1,
+        SECONDS(30) - 1,
+        SECONDS(30),
+        SECONDS(1000),
+        UINT64_C(1) << 63,
+        UINT64_MAX - SECONDS(30),
+        UINT64_MAX,
+    };
+    static const uint32_t rates[] = {1, 8000, RATE, 191999, 192000};
+    static const uint32_t rtps[] = {0, 59, 60, 11520000, UINT32_C(1) << 31, UINT32_MAX};
+
+    CASE("received times at the limits");
+    for (size_t i = 0; i < LENGTH(ntps); i++)
+        check_ntp_limits(ntps[i]);
+
+    CASE("rates and RTP times at the limits");
+    for (size_t i = 0; i < LENGTH(rates); i++) {
+        for (size_t j = 0; j < LENGTH(rtps); j++)
+            check_rtp_limits(rates[i], rtps[j]);
+    }
+}
+
+/* A report of source 10, received at some time and presented some 2^-16 s after its M. */
+static void step_gets(uint64_t received, uint32_t step, uint64_t number)
+{
+    record_t record = p1();
+    reading_t reading = {received, 8910000};
+    table_t table;
+    uint64_t full = (received >> 16 << 16) + ((uint64_t)step << 16);
+
+    record.report.received = received;
+    record.report.presented = (uint32_t)(received >> 16) + step;
+    table = report(opened(), record, reading, number);
+    if (number == PRUNEPOCKET_ACCEPTED)
+        check_equal("presented", choose(table, reading).presented, full);
+}
+
+static void test_presented_limits(void)
+{
+    static const uint64_t times[] = {
+        0, 0xFFFF, SECONDS(999), SECONDS(999) + 0xFFFF, UINT64_C(1) << 63,
+        UINT64_MAX - SECONDS(40), UINT64_MAX,
+    };
+
+    CASE("presented times at the limits");
+    for (size_t i = 0; i < LENGTH(times); i++) {
+        step_gets(times[i], 0, PRUNEPOCKET_BADLY_PRESENTED);
+        step_gets(times[i], 2, PRUNEPOCKET_ACCEPTED);
+        step_gets(times[i], SHORT_SECONDS(30), PRUNEPOCKET_ACCEPTED);
+        step_gets(times[i], SHORT_SECONDS(30) + 1, PRUNEPOCKET_BADLY_PRESENTED);
+        step_gets(times[i], UINT32_MAX, PRUNEPOCKET_BADLY_PRESENTED);
+    }
+
+    CASE("presented at the full time 0");
+    step_gets(UINT64_MAX, 1, PRUNEPOCKET_BADLY_PRESENTED);
+    step_gets(-SECONDS(30), SHORT_SECONDS(30), PRUNEPOCKET_BADLY_PRESENTED);
+    step_gets(-SECONDS(30), SHORT_SECONDS(30) - 1, PRUNEPOCKET_ACCEPTED);
+    step_gets(-SECONDS(29), SHORT_SECONDS(29) + 1, PRUNEPOCKET_ACCEPTED);
+}
+
+/* The greatest and the least lateness that a counted member can have, at the greatest rate. */
+static void test_lateness_limits(void)
+{
+    table_t table;
+    record_t least = {5, unit(30), {SECONDS(970), GROUP, MEDIA, 9000000, 0x03CA0001, 33, 1}};
+    record_t greatest = {9, unit(30), {SECONDS(1000), GROUP, MEDIA, 0, 0x04060000, 33, 1}};
+    reading_t late = {SECONDS(1000), 11520000};
+    target_t target;
+
+    CASE("the least lateness");
+    table = open_table(GROUP, MEDIA, 192000);
+    target = choose(report(table, least, now, PRUNEPOCKET_ACCEPTED), now);
+    check_lateness(target, 192000, now,
+                   INT64_C(192000) * (INT64_C(65536) - (int64_t)SECONDS(30)));
+
+    CASE("the greatest lateness");
+    target = choose(report(table, greatest, late, PRUNEPOCKET_ACCEPTED), late);
+    check_lateness(target, 192000, late, INT64_C(192000) * (int64_t)SECONDS(90));
+
+    CASE("the greatest lateness is chosen before the least");
+    table = report(table, least, late, PRUNEPOCKET_ACCEPTED);
+    check_chosen(report(table, greatest, late, PRUNEPOCKET_ACCEPTED), late, 9, 2);
+}
+
+/* Of two reports at a rate, the second is from the higher number and is chosen, or tied with. */
+static void check_second(uint32_t rate, record_t first, record_t second, uint32_t source)
+{
+    table_t table = open_table(GROUP, MEDIA, rate);
+
+    table = report(table, first, now, PRUNEPOCKET_ACCEPTED);
+    table = report(table, second, now, PRUNEPOCKET_ACCEPTED);
+    check_chosen(table, now, source, 2);
+}
+
+/* Nothing is rounded: one unit decides. */
+static void test_small_differences(void)
+{
+    static const uint32_t rates[] = {1, 8000, RATE, 192000};
+    record_t first = arrival(30);
+    record_t second = arrival(31);
+
+    for (size_t i = 0; i < LENGTH(rates); i++) {
+        CASE("received a unit later, in arrival mode");
+        first.report = arrival(30).report;
+        first.report.received = SECONDS(1000) - 1;
+        second.report = arrival(31).report;
+        check_second(rates[i], first, second, 31);
+
+        CASE("an RTP time a tick earlier");
+        first.report.received = SECONDS(1000);
+        second.report.rtp = 8999999;
+        check_second(rates[i], first, second, 31);
+
+        CASE("a second older by both clocks: a tie");
+        second.report.rtp = 9000000 - rates[i];
+        second.report.received = SECONDS(999);
+        check_second(rates[i], first, second, 30);
+
+        CASE("presented a unit later");
+        first.report = p1().report;
+        second.report = p1().report;
+        check_second(RATE, first, second, 30);
+        second.report.presented += 1;
+        check_second(RATE, first, second, 31);
+    }
+}
+
+/* ---- As a host does it ----------------------------------------------------------------------- */
+
+/* A report item's row under the origin of its datagram. */
+static record_t record_of(const uint64_t *row, origin_t origin)
+{
+    return (record_t){
+        (uint32_t)row[PRUNEPOCKET_FIELD_SOURCE],
+        origin,
+        {
+            .received = row[PRUNEPOCKET_FIELD_RECEIVED],
+            .group = (uint32_t)row[PRUNEPOCKET_FIELD_GROUP],
+            .media_source = (uint32_t)row[PRUNEPOCKET_FIELD_MEDIA_SOURCE],
+            .rtp = (uint32_t)row[PRUNEPOCKET_FIELD_RTP],
+            .presented = (uint32_t)row[PRUNEPOCKET_FIELD_PRESENTED],
+            .payload_type = (uint8_t)row[PRUNEPOCKET_FIELD_PAYLOAD_TYPE],
+            .p = (uint8_t)row[PRUNEPOCKET_FIELD_P],
+        },
+    };
+}
+
+/* The table after each report and farewell of a datagram. */
+static table_t take_datagram(table_t table, const uint8_t *datagram, size_t length,
+                             origin_t origin)
+{
+    uint64_t rows[4 * PRUNEPOCKET_ROW];
+    uint64_t count = 0;
+
+    check_answer("read_items",
+                 prunepocket_read_items(datagram, length, rows, LENGTH(rows), &count), 0, 0);
+    for (size_t i = 0; i < count; i++) {
+        const uint64_t *row = rows + i * PRUNEPOCKET_ROW;
+
+        if (row[PRUNEPOCKET_FIELD_KIND] == PRUNEPOCKET_REPORT)
+            table = prunepocket_report(table, record_of(row, origin), now).table;
+        if (row[PRUNEPOCKET_FIELD_KIND] == PRUNEPOCKET_FAREWELL)
+            table = prunepocket_farewell(table, (uint32_t)row[PRUNEPOCKET_FIELD_SOURCE], origin)
+                        .table;
+    }
+    return table;
+}
+
+static void test_datagrams(void)
+{
+    static const uint8_t bye[] = {0x80, 201, 0, 1, 0, 0, 0, 99, 0x82, 203, 0, 2,
+                                  0,    0,   0, 10, 0, 0, 0, 20};
+    uint8_t datagram[8 + PRUNEPOCKET_REPORT_BYTES] = {0x80, 201, 0, 1, 0, 0, 0, 99};
+    uint64_t written = 0;
+    table_t table;
+
+    CASE("P2 out of a datagram");
+    table = with_one(p1());
+    check_answer("write_report",
+                 prunepocket_write_report(20, 33, 1, GROUP, MEDIA, SECONDS(998), 8820000,
+                                          0x03E6C000, datagram + 8, sizeof datagram - 8, &written),
+                 0, 0);
+    table = take_datagram(table, datagram, sizeof datagram, unit(20));
+    check_member(table, 1, p2());
+    check_target(choose(table, now), p3);
+
+    CASE("a BYE with both sources, from the second unit");
+    table = take_datagram(table, bye, sizeof bye, unit(20));
+    check_member(table, 0, p1());
+    check_vacant(table, 1);
+}
+
+/* Nothing is kept between calls. */
+static void test_two_tables(void)
+{
+    record_t foreign = arrival(10);
+    table_t one;
+    table_t other;
+    table_t alone;
+
+    CASE("two tables in turn");
+    one = opened();
+    other = open_table(43, MEDIA, 8000);
+    alone = with_two(p1(), p2());
+    foreign.report.group = 43;
+    one = report(one, p1(), now, PRUNEPOCKET_ACCEPTED);
+    other = report(other, foreign, now, PRUNEPOCKET_ACCEPTED);
+    one = report(one, foreign, now, PRUNEPOCKET_OTHER_STREAM);
+    other = farewell(other, 10, unit(10), PRUNEPOCKET_OTHER_ORIGIN);
+    one = report(one, p2(), now, PRUNEPOCKET_ACCEPTED);
+    other = farewell(other, 10, unit(30), PRUNEPOCKET_ACCEPTED);
+    check_true("as the one table alone", same_table(&one, &alone));
+    check_none_fresh(other, now);
+}
+
+/* ---- Tables that C has written on ------------------------------------------------------------ */
+
+#define RANDOM_TABLES 1000
+
+/* The numbers that random tables were answered with, 0 to 20. */
+static unsigned long met[21];
+
+static uint64_t next_random(void)
+{
+    static uint64_t state = UINT64_C(0x9E3779B97F4A7C15);
+
+    state ^= state << 13;
+    state ^= state >> 7;
+    state ^= state << 17;
+    return state;
+}
+
+/* Any bytes, or few different ones, so that numbers and origins meet. */
+static void fill_random(void *memory, size_t bytes, int few)
+{
+    static const uint8_t some[] = {0, 0, 0, 1, 0xFF};
+    uint8_t *byte = memory;
+
+    for (size_t i = 0; i < bytes; i++)
+        byte[i] = few ? some[(next_random() >> 32) % sizeof some] : (uint8_t)(next_random() >> 32);
+}
+
+static table_t random_table(int few)
+{
+    table_t table;
+
+    fill_random(&table, sizeof table, few);
+    if (next_random() % 4 == 0)
+        table.held = UINT64_MAX;
+    return table;
+}
+
+/* A random record, or one of the table's own that comes closer to being accepted. */
+static record_t random_record(const table_t *table, int few)
+{
+    record_t record;
+
+    fill_random(&record, sizeof record, few);
+    if (next_random() % 2 == 0)
+        record = table->members[next_random() % PRUNEPOCKET_PLACES];
+    if (next_random() % 8 != 0) {
+        record.report.group = table->group;
+        record.report.media_source = table->media_source;
+    }
+    if (next_random() % 4 == 0)
+        record.source = (uint32_t)next_random();
+    if (next_random() % 2 == 0)
+        record.report.presented = (uint32_t)(record.report.received >> 16) + SHORT_SECONDS(1);
+    return record;
+}
+
+/* A random reading, or one that is near a record's times. */
+static reading_t random_reading(const record_t *record, int few)
+{
+    reading_t reading;
+
+    fill_random(&reading, sizeof reading, few);
+    if (next_random() % 4 != 0)
+        reading.ntp = record->report.received + next_random() % SECONDS(31);
+    if (next_random() % 4 != 0)
+        reading.rtp = record->report.rtp + (uint32_t)(next_random() % 60);
+    return reading;
+}
+
+/* The number is one that the call can give: 0, or from low to high. */
+static void check_number(const char *what, uint64_t number, uint64_t low, uint64_t high)
+{
+    check_true(what, number == 0 || (low <= number && number <= high));
+    if (number < LENGTH(met))
+        met[number]++;
+}
+
+static unsigned ones(uint64_t word)
+{
+    unsigned count = 0;
+
+    for (; word != 0; word &= word - 1)
+        count++;
+    return count;
+}
+
+static void random_report(table_t table, record_t record, reading_t reading)
+{
+    answered_t answered = prunepocket_report(table, record, reading);
+    uint64_t added = answered.table.held & ~table.held;
+
+    check_number("report: number", answered.number, 13, 18);
+    if (answered.number != 0) {
+        check_true("report: the table as before", same_table(&answered.table, &table));
+        return;
+    }
+    check_true("report: one place more, the lowest free, or none",
+               added == 0 || added == (~table.held & (table.held + 1)));
+    check_equal("report: places kept", table.held & ~answered.table.held, 0);
+}
+
+static void random_farewell(table_t table, uint32_t source, origin_t origin)
+{
+    answered_t answered = prunepocket_farewell(table, source, origin);
+    uint64_t removed = table.held & ~answered.table.held;
+
+    check_number("farewell: number", answered.number, 14, 19);
+    check_true("farewell: not 15 to 18", answered.number < 15 || answered.number > 18);
+    check_equal("farewell: removed", ones(removed), answered.number == 0);
+    answered.table.held |= removed;
+    check_true("farewell: all else as before", same_table(&answered.table, &table));
+}
+
+/* 20 is given exactly where a sweep would leave no member. */
+static void random_choice(table_t table, reading_t reading)
+{
+    answered_t swept = prunepocket_sweep(table, reading);
+    followed_t followed = prunepocket_choose(table, reading);
+
+    check_equal("sweep: number", swept.number, 0);
+    check_equal("sweep: no place more", swept.table.held & ~table.held, 0);
+    check_number("choose: number", followed.number, 20, 20);
+    check_equal("choose: 20", followed.number == 20, swept.table.held == 0);
+    check_true("choose: counted", followed.target.counted <= ones(swept.table.held));
+    check_true("choose: the table as before", same_table(&followed.table, &table));
+    swept.table.held = table.held;
+    check_true("sweep: all else as before", same_table(&swept.table, &table));
+}
+
+static void random_seats(table_t table)
+{
+    size_t place = (size_t)next_random();
+
+    check_equal("members", prunepocket_members(table), ones(table.held));
+    if (place >= PRUNEPOCKET_PLACES)
+        check_vacant(table, place);
+    place %= PRUNEPOCKET_PLACES;
+    if (table.held >> place & 1)
+        check_member(table, place, table.members[place]);
+    else
+        check_vacant(table, place);
+}
+
+static void random_opening(void)
+{
+    uint32_t group = (uint32_t)next_random();
+    uint32_t rate = (uint32_t)(next_random() % 384000);
+    answered_t answered = prunepocket_open(group, (uint32_t)next_random(), rate);
+
+    check_number("open: number", answered.number, 12, 12);
+    check_equal("open: members", prunepocket_members(answered.table), 0);
+}
+
+static void test_random_tables(void)
+{
+    static const uint8_t numbers[] = {0, 12, 13, 14, 15, 16, 17, 18, 19, 20};
+
+    CASE("tables of random bytes");
+    for (int i = 0; i < RANDOM_TABLES; i++) {
+        int few = i % 2;
+        table_t table = random_table(few);
+        record_t record = random_record(&table, few);
+        reading_t reading = random_reading(&record, few);
+
+        random_report(table, record, reading);
+        random_farewell(table, record.source, record.origin);
+        random_choice(table, reading);
+        random_seats(table);
+        random_opening();
+    }
+
+    CASE("each number was met on random tables");
+    for (size_t i = 0; i < sizeof numbers; i++)
+        check_true("met", met[numbers[i]] > 0);
+}
+
+int main(void)
+{
+    start_checks(__FILE__);
+    test_small_layouts();
+    test_large_layouts();
+    test_answer_layouts();
+    test_opened_bytes();
+    test_filed_bytes();
+    test_followed_bytes();
+    test_p1_to_p2();
+    test_p3_to_p4();
+    test_p6_to_p7();
+    test_p8_to_p10();
+    test_twins();
+    test_near_twins();
+    test_twin_after_farewell();
+    test_full_table();
+    test_freed_places();
+    test_farewells();
+    test_order_of_a_member();
+    test_order_of_a_new_member();
+    test_standing_report();
+    test_p();
+    test_sweeps();
+    test_sweeps_by_rtp();
+    test_arrival_mode();
+    test_none_fresh();
+    test_openings();
+    test_reading_limits();
+    test_presented_limits();
+    test_lateness_limits();
+    test_small_differences();
+    test_datagrams();
+    test_two_tables();
+    test_random_tables();
+    return finish_checks();
+}
