@@ -1,11 +1,18 @@
-//! The independent side: a decoder and an encoder of document 01's rules, a
-//! seeded generator, and the comparison of both with libprunepocket.a.
+//! The independent side: a decoder, an encoder and a plain register of document
+//! 01's rules, seeded generators, and the comparison of all three with
+//! libprunepocket.a.
 
 pub mod archive;
+pub mod archive_table;
 pub mod cases;
 pub mod compare;
+pub mod compare_table;
 pub mod compare_writers;
 pub mod decoder;
 pub mod encoder;
 pub mod generator;
+pub mod histories;
 pub mod items;
+pub mod members;
+pub mod register;
+pub mod target;

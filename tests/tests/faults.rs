@@ -1,18 +1,19 @@
-//! Plants each fault in the decoder and in the encoder, and asserts that the
-//! comparison finds it.
+//! Plants each fault in the decoder, in the encoder and in the register, and
+//! asserts that the comparison finds it.
 
 use prunepocket_tests::compare::Comparison;
+use prunepocket_tests::compare_table::{smallest, TableComparison};
 use prunepocket_tests::compare_writers::WriterComparison;
 use prunepocket_tests::encoder::Message;
 use prunepocket_tests::generator::{self, Rng};
-use prunepocket_tests::{decoder, encoder};
+use prunepocket_tests::{decoder, encoder, histories, register};
 use std::fmt::Debug;
 use std::process::exit;
 
-/// Each fault has to be found within so many datagrams or messages.
+/// Each fault has to be found within so many datagrams, messages or histories.
 const BOUND: u64 = 20_000;
 
-/// Which datagram or message showed the fault, and how.
+/// Which datagram, message or history showed the fault, and how.
 type Found = Option<(u64, String)>;
 
 fn main() {
@@ -30,6 +31,9 @@ fn main() {
     for fault in encoder::Fault::OF_SETTINGS {
         let found = in_messages(seed, fault, generator::settings_message);
         missed |= !print_found(fault, "settings", found);
+    }
+    for fault in register::Fault::all() {
+        missed |= !print_found(fault, "history", in_histories(seed, fault));
     }
     if missed {
         exit(1);
@@ -74,6 +78,24 @@ fn in_messages(seed: u64, fault: encoder::Fault, make: fn(&mut Rng) -> Message) 
             let sound = WriterComparison::new(seed, None).check(&message, length);
             assert_eq!(sound, Ok(()));
             return Some((run, difference));
+        }
+    }
+    None
+}
+
+/// The difference is that of the smallest history with the fault in it.
+fn in_histories(seed: u64, fault: register::Fault) -> Found {
+    let mut rng = Rng::new(seed);
+    let mut comparison = TableComparison::new(seed, Some(fault));
+    for run in 1..=BOUND {
+        let history = histories::history(&mut rng);
+        if comparison.check(&history).is_err() {
+            // As above.
+            let sound = TableComparison::new(seed, None).check(&history);
+            assert_eq!(sound, Ok(()));
+            let history = smallest(seed, Some(fault), &history);
+            let difference = TableComparison::new(seed, Some(fault)).check(&history);
+            return difference.err().map(|difference| (run, difference));
         }
     }
     None

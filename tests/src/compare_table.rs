@@ -1,0 +1,261 @@
+//! The comparison of the archive's member table with the plain register, call
+//! by call, and of its targets with their definition.
+
+use crate::archive_table::{Seat, Table, PLACES};
+use crate::compare::{same, Verdict};
+use crate::generator::Rng;
+use crate::histories::{History, Step};
+use crate::members::{Call, Opening, Reading, Record, Target};
+use crate::register::{Fault, Register};
+use crate::target::{Scene, Seen};
+
+/// Kinds of calls, as columns of a tally.
+pub const KINDS: [&str; 5] = ["open", "report", "farewell", "sweep", "choose"];
+
+/// How often each thing was met.
+#[derive(Default)]
+pub struct Tally {
+    pub histories: u64,
+    /// By kind of call and by its answer, a refusal's number or 0.
+    pub answers: [[u64; 21]; KINDS.len()],
+    /// Comparisons of all members, how many had 64, and members in all.
+    pub member_lists: u64,
+    pub full_lists: u64,
+    pub members: u64,
+    pub targets: Targets,
+}
+
+/// Targets that have their defined property.
+#[derive(Default)]
+pub struct Targets {
+    pub by_presentation: u64,
+    pub by_arrival: u64,
+    pub before_reading: u64,
+    pub ties: u64,
+}
+
+impl Tally {
+    /// Reports, farewells and sweeps.
+    pub fn calls(&self) -> u64 {
+        self.answers[1..4].iter().flatten().sum()
+    }
+
+    /// How often an answer was met with all kinds of calls.
+    pub fn met(&self, number: usize) -> u64 {
+        self.answers.iter().map(|answers| answers[number]).sum()
+    }
+}
+
+/// The two sides, opened alike.
+struct Sides {
+    opening: Opening,
+    table: Table,
+    register: Register,
+}
+
+pub struct TableComparison {
+    fault: Option<Fault>,
+    rng: Rng,
+    pub tally: Tally,
+}
+
+impl TableComparison {
+    /// With a planted fault, the register is the one that errs.
+    pub fn new(seed: u64, fault: Option<Fault>) -> Self {
+        TableComparison {
+            fault,
+            rng: Rng::new(!seed),
+            tally: Tally::default(),
+        }
+    }
+
+    /// A whole history, from its opening on.
+    pub fn check(&mut self, history: &History) -> Verdict {
+        self.tally.histories += 1;
+        let Some(mut sides) = self.open(&history.opening)? else {
+            return Ok(());
+        };
+        for (place, step) in history.steps.iter().enumerate() {
+            self.check_step(&mut sides, step)
+                .map_err(|difference| format!("step {place}, {difference}"))?;
+        }
+        self.check_members(&sides)
+            .map_err(|difference| format!("at the end, {difference}"))
+    }
+
+    fn open(&mut self, opening: &Opening) -> Result<Option<Sides>, String> {
+        let table = Table::open(opening);
+        let register = Register::open(opening, self.fault);
+        let number = |refused: Option<&u64>| refused.copied().unwrap_or(0);
+        let answer = number(table.as_ref().err());
+        let expected = number(register.as_ref().err());
+        same(format_args!("opening"), &answer, &expected)?;
+        self.tally.answers[0][answer as usize] += 1;
+        let (Ok(table), Ok(register)) = (table, register) else {
+            return Ok(None);
+        };
+        Ok(Some(Sides {
+            opening: *opening,
+            table,
+            register,
+        }))
+    }
+
+    fn check_step(&mut self, sides: &mut Sides, step: &Step) -> Verdict {
+        match step {
+            Step::Call(call) => self.check_call(sides, call),
+            Step::Choose(reading) => self.check_choice(sides, reading),
+            Step::Members => self.check_members(sides),
+        }
+    }
+
+    fn check_call(&mut self, sides: &mut Sides, call: &Call) -> Verdict {
+        let rows = sides.register.rows().len();
+        let expected = sides.register.call(call);
+        let (number, after) = sides.table.call(call);
+        same(format_args!("the answer"), &number, &expected)?;
+        self.tally.answers[kind(call)][number as usize] += 1;
+        if number != 0 && after != sides.table {
+            return Err(String::from("the table after a refusal is not as before"));
+        }
+        match call {
+            Call::Report(told, _) if sides.register.rows().len() > rows => {
+                check_new_place(&sides.table, &after, told)?;
+            }
+            _ => {}
+        }
+        sides.table = after;
+        Ok(())
+    }
+
+    /// Members and rows one to one, whatever their order.
+    fn check_members(&mut self, sides: &Sides) -> Verdict {
+        let mut members = members_of(&sides.table)?;
+        let mut rows = sides.register.rows().to_vec();
+        let count = sides.table.members();
+        same(
+            format_args!("how many members"),
+            &count,
+            &(rows.len() as u32),
+        )?;
+        members.sort_by_key(|member| member.source);
+        rows.sort_by_key(|row| row.source);
+        same(format_args!("the members"), &members, &rows)?;
+        let outside = PLACES + (self.rng.number() as usize >> self.rng.between(1, 63));
+        for place in [PLACES, outside, usize::MAX] {
+            let seat = sides.table.seat(place);
+            same(format_args!("place {place}"), &seat, &Seat::default())?;
+        }
+        self.tally.member_lists += 1;
+        self.tally.full_lists += u64::from(rows.len() == PLACES);
+        self.tally.members += rows.len() as u64;
+        Ok(())
+    }
+
+    /// Choosing answers as the register, with a target as defined, and leaves
+    /// the table as it was.
+    fn check_choice(&mut self, sides: &Sides, reading: &Reading) -> Verdict {
+        let expected = sides.register.choose(reading);
+        let (choice, target, after) = sides.table.choose(reading);
+        same(format_args!("the choice"), &choice, &expected)?;
+        if after != sides.table {
+            return Err(String::from("the table after choosing is not as before"));
+        }
+        let number = choice.err().unwrap_or(0);
+        if number != 0 {
+            let nothing = Target::default();
+            same(format_args!("the target beside 20"), &target, &nothing)?;
+        }
+        self.tally.answers[4][number as usize] += 1;
+        let scene = Scene {
+            rate: sides.opening.rate,
+            reading: *reading,
+            members: &members_of(&sides.table)?,
+        };
+        let seen = scene.check(&choice, &samples(&mut self.rng));
+        let seen = seen.map_err(|wrong| format!("the target {choice:?}: {wrong}"))?;
+        self.tally.targets.count(seen);
+        Ok(())
+    }
+}
+
+impl Targets {
+    fn count(&mut self, seen: Option<Seen>) {
+        let Some(seen) = seen else {
+            return;
+        };
+        match seen.by_presentation {
+            true => self.by_presentation += 1,
+            false => self.by_arrival += 1,
+        }
+        self.before_reading += u64::from(seen.before);
+        self.ties += u64::from(seen.tie);
+    }
+}
+
+/// The column of a call in a tally.
+fn kind(call: &Call) -> usize {
+    match call {
+        Call::Report(..) => 1,
+        Call::Farewell(..) => 2,
+        Call::Sweep(_) => 3,
+    }
+}
+
+/// A new member takes the lowest free place.
+fn check_new_place(before: &Table, after: &Table, told: &Record) -> Verdict {
+    let place = before.held.trailing_ones();
+    let held = before.held | 1 << place;
+    same(format_args!("the places held"), &after.held, &held)?;
+    let expected = Seat {
+        held: 1,
+        member: *told,
+    };
+    let seat = after.seat(place as usize);
+    same(format_args!("the lowest free place"), &seat, &expected)
+}
+
+/// The members at all places.
+fn members_of(table: &Table) -> Result<Vec<Record>, String> {
+    let mut members = Vec::new();
+    for place in 0..PLACES {
+        let seat = table.seat(place);
+        match seat.held {
+            1 => members.push(seat.member),
+            _ => same(
+                format_args!("the free place {place}"),
+                &seat,
+                &Seat::default(),
+            )?,
+        }
+    }
+    Ok(members)
+}
+
+/// The reading's own sample, the ones beside it, and any others before and
+/// after it.
+fn samples(rng: &mut Rng) -> [i128; 7] {
+    let mut any = || i128::from(rng.number() as i64) >> rng.below(64);
+    [0, 1, -1, any(), any(), -any().abs(), any().abs()]
+}
+
+/// The history with every step left out that the difference does without.
+pub fn smallest(seed: u64, fault: Option<Fault>, history: &History) -> History {
+    let differs = |history: &History| TableComparison::new(seed, fault).check(history).is_err();
+    let mut smallest = history.clone();
+    let mut share = smallest.steps.len().max(1);
+    while share > 0 {
+        let mut start = 0;
+        while start < smallest.steps.len() {
+            let mut fewer = smallest.clone();
+            let end = (start + share).min(fewer.steps.len());
+            fewer.steps.drain(start..end);
+            match differs(&fewer) {
+                true => smallest = fewer,
+                false => start = end,
+            }
+        }
+        share /= 2;
+    }
+    smallest
+}

@@ -1,0 +1,475 @@
+//! A seeded generator of call histories: few and many sources and origins,
+//! readings that jump, wrap and repeat, and times at and next to every limit.
+
+use crate::generator::Rng;
+use crate::members::{Call, Opening, Origin, Reading, Record, Report};
+
+const SECOND: u64 = 1 << 32;
+
+/// The greatest NTP age, and the greatest delay.
+const LIMIT: u64 = 30 * SECOND;
+
+/// NTP ages at the limits of check 15 and next to them; the last is a unit
+/// behind the reading.
+const AGES: [u64; 6] = [0, 1, LIMIT - 1, LIMIT, LIMIT + 1, u64::MAX];
+
+/// A presentation step of 30 s.
+const STEP_LIMIT: u32 = 30 << 16;
+
+/// Presentation steps at the limits of check 17 and next to them.
+const STEPS: [u32; 6] = [0, 1, STEP_LIMIT - 1, STEP_LIMIT, STEP_LIMIT + 1, u32::MAX];
+
+const RATES: [u32; 6] = [1, 8_000, 44_100, 90_000, 90_000, 192_000];
+
+/// How many reports are remembered, to be repeated and read near their limits.
+const REMEMBERED: usize = 24;
+
+#[derive(Clone, Copy, Debug, PartialEq, Eq)]
+pub enum Step {
+    Call(Call),
+    Choose(Reading),
+    /// All members are compared.
+    Members,
+}
+
+#[derive(Clone, Debug, PartialEq, Eq)]
+pub struct History {
+    pub opening: Opening,
+    pub steps: Vec<Step>,
+}
+
+/// The next history of a run.
+pub fn history(rng: &mut Rng) -> History {
+    let opening = opening(rng);
+    let temper = Temper::any(rng);
+    let length = temper.length;
+    let mut world = World::new(rng, opening, temper);
+    let mut steps: Vec<Step> = (0..length).map(|_| world.step(rng)).collect();
+    let last = world.some_reading(rng);
+    steps.extend([Step::Choose(world.clock), Step::Choose(last)]);
+    History { opening, steps }
+}
+
+fn opening(rng: &mut Rng) -> Opening {
+    let edges = [0, 1, 2, u32::MAX - 1, u32::MAX];
+    let rates = [0, 1, 2, 191_999, 192_000, 192_001, u32::MAX];
+    let group = match rng.chance(10) {
+        true => rng.pick(&edges),
+        false => rng.word(),
+    };
+    let media = match rng.chance(20) {
+        true => rng.pick(&edges),
+        false => rng.word(),
+    };
+    let rate = match rng.below(20) {
+        0..=1 => rng.pick(&rates),
+        2..=4 => rng.between(1, 192_000) as u32,
+        _ => rng.pick(&RATES),
+    };
+    Opening { group, media, rate }
+}
+
+/// What a history is like; all but the first three in percent.
+struct Temper {
+    length: usize,
+    sources: usize,
+    origins: usize,
+    /// Calls from an origin that is not the source's own.
+    twins: usize,
+    /// Fields at a limit, or wrong.
+    edges: usize,
+    /// Reports with the times of an earlier one, or nearly those.
+    echoes: usize,
+    presenting: usize,
+    farewells: usize,
+    sweeps: usize,
+    jumps: usize,
+}
+
+impl Temper {
+    fn any(rng: &mut Rng) -> Self {
+        match rng.below(10) {
+            0..=1 => Temper::crowded(rng),
+            _ => Temper::mixed(rng),
+        }
+    }
+
+    /// Enough sources to fill the table, and calm enough to keep it so.
+    fn crowded(rng: &mut Rng) -> Self {
+        Temper {
+            length: rng.between(150, 450),
+            sources: rng.between(60, 70),
+            origins: rng.pick(&[1, 2, 70]),
+            twins: 2,
+            edges: rng.pick(&[1, 3]),
+            echoes: rng.pick(&[5, 30]),
+            presenting: rng.pick(&[0, 50, 100]),
+            farewells: rng.pick(&[1, 4]),
+            sweeps: 1,
+            jumps: 0,
+        }
+    }
+
+    fn mixed(rng: &mut Rng) -> Self {
+        let longest = rng.pick(&[4, 20, 80, 200]);
+        Temper {
+            length: rng.between(1, longest),
+            sources: rng.pick(&[1, 2, 2, 3, 8, 30]),
+            origins: rng.pick(&[1, 2, 3, 8, 40]),
+            twins: rng.pick(&[2, 10, 40]),
+            edges: rng.pick(&[2, 5, 20]),
+            echoes: rng.pick(&[2, 20, 60]),
+            presenting: rng.pick(&[0, 5, 50, 90, 100]),
+            farewells: rng.pick(&[3, 10, 20]),
+            sweeps: rng.pick(&[1, 4, 10]),
+            jumps: rng.pick(&[0, 2, 10]),
+        }
+    }
+}
+
+/// The clocks and the senders of a history.
+struct World {
+    opening: Opening,
+    temper: Temper,
+    sources: Vec<u32>,
+    origins: Vec<Origin>,
+    clock: Reading,
+    recent: Vec<Report>,
+}
+
+impl World {
+    fn new(rng: &mut Rng, opening: Opening, temper: Temper) -> Self {
+        World {
+            opening,
+            sources: sources(rng, temper.sources),
+            origins: origins(rng, temper.origins),
+            clock: first_reading(rng, opening.rate),
+            recent: Vec::new(),
+            temper,
+        }
+    }
+
+    fn step(&mut self, rng: &mut Rng) -> Step {
+        match rng.below(100) {
+            0..=17 => Step::Choose(self.some_reading(rng)),
+            18..=21 => Step::Members,
+            _ => Step::Call(self.call(rng)),
+        }
+    }
+
+    fn call(&mut self, rng: &mut Rng) -> Call {
+        self.advance(rng);
+        let kind = rng.below(100);
+        let sweeps = self.temper.sweeps;
+        if kind < sweeps {
+            return Call::Sweep(self.some_reading(rng));
+        }
+        let (source, origin) = self.sender(rng);
+        if kind < sweeps + self.temper.farewells {
+            return Call::Farewell(source, origin);
+        }
+        let report = self.report(rng);
+        let told = Record {
+            source,
+            origin,
+            report,
+        };
+        Call::Report(told, self.clock)
+    }
+
+    /// A source with its own origin, or at times with another.
+    fn sender(&self, rng: &mut Rng) -> (u32, Origin) {
+        let index = rng.below(self.sources.len());
+        let source = match rng.chance(1) {
+            true => rng.word(),
+            false => self.sources[index],
+        };
+        let origin = match rng.chance(self.temper.twins) {
+            true => self.twin_origin(rng, index),
+            false => self.origins[index % self.origins.len()],
+        };
+        (source, origin)
+    }
+
+    /// Another sender's origin, or the own one with a byte changed.
+    fn twin_origin(&self, rng: &mut Rng, index: usize) -> Origin {
+        match rng.chance(50) {
+            true => rng.pick(&self.origins),
+            false => neighbour(rng, &self.origins[index % self.origins.len()]),
+        }
+    }
+
+    /// Lets time pass, or not; at times the clocks jump.
+    fn advance(&mut self, rng: &mut Rng) {
+        if rng.chance(self.temper.jumps) {
+            self.clock = self.jump(rng);
+            return;
+        }
+        let passed = match rng.below(10) {
+            0..=3 => 0,
+            4..=8 => upto(rng, SECOND / 32),
+            _ => upto(rng, SECOND / 2),
+        };
+        self.clock = self.later(passed);
+    }
+
+    fn jump(&self, rng: &mut Rng) -> Reading {
+        let Reading { ntp, rtp } = self.clock;
+        match rng.below(6) {
+            0 => self.later(upto(rng, 40 * SECOND)),
+            1 => self.later(upto(rng, 10 * SECOND).wrapping_neg()),
+            2 => Reading {
+                ntp,
+                rtp: rng.word(),
+            },
+            3 => Reading {
+                ntp: ntp.wrapping_sub(upto(rng, 5 * SECOND)),
+                rtp,
+            },
+            4 => self.some_reading(rng),
+            _ => first_reading(rng, self.opening.rate),
+        }
+    }
+
+    /// Both clocks after a time, which may be negative.
+    fn later(&self, passed: u64) -> Reading {
+        Reading {
+            ntp: self.clock.ntp.wrapping_add(passed),
+            rtp: self.clock.rtp.wrapping_add(self.ticks(passed)),
+        }
+    }
+
+    /// What the media clock counts in a time, which may be negative.
+    fn ticks(&self, passed: u64) -> u32 {
+        let ticks = i128::from(passed as i64) * i128::from(self.opening.rate);
+        (ticks >> 32) as u32
+    }
+
+    /// As AGES, of check 16.
+    fn media_ages(&self) -> [u32; 6] {
+        let most = self.opening.rate.wrapping_mul(60);
+        let (less, more) = (most.wrapping_sub(1), most.wrapping_add(1));
+        [0, 1, less, most, more, u32::MAX]
+    }
+
+    /// A reading for sweeping and choosing.
+    fn some_reading(&self, rng: &mut Rng) -> Reading {
+        match rng.below(20) {
+            0..=9 => self.clock,
+            10..=12 => self.later(upto(rng, 35 * SECOND)),
+            13 => self.later(upto(rng, 5 * SECOND).wrapping_neg()),
+            14 => first_reading(rng, self.opening.rate),
+            _ if self.recent.is_empty() => self.clock,
+            _ => self.at_limit(rng),
+        }
+    }
+
+    /// A reading at which a remembered report is just fresh, or just not.
+    fn at_limit(&self, rng: &mut Rng) -> Reading {
+        let report = rng.pick(&self.recent);
+        let age = match rng.chance(70) {
+            true => rng.pick(&AGES),
+            false => upto(rng, LIMIT),
+        };
+        let media_age = match rng.chance(40) {
+            true => rng.pick(&self.media_ages()),
+            false => self.ticks(age),
+        };
+        Reading {
+            ntp: report.received.wrapping_add(age),
+            rtp: report.rtp.wrapping_add(media_age),
+        }
+    }
+
+    /// A report at the clock's reading.
+    fn report(&mut self, rng: &mut Rng) -> Report {
+        let mut report = match !self.recent.is_empty() && rng.chance(self.temper.echoes) {
+            true => self.echo(rng),
+            false => self.fresh_report(rng),
+        };
+        if rng.chance(self.temper.edges) {
+            self.spoil_identifiers(rng, &mut report);
+        }
+        self.remember(rng, report);
+        report
+    }
+
+    fn remember(&mut self, rng: &mut Rng, report: Report) {
+        if self.recent.len() < REMEMBERED {
+            self.recent.push(report);
+        } else {
+            let place = rng.below(REMEMBERED);
+            self.recent[place] = report;
+        }
+    }
+
+    fn fresh_report(&self, rng: &mut Rng) -> Report {
+        let received = self.received(rng);
+        Report {
+            received,
+            group: self.opening.group,
+            media: self.opening.media,
+            rtp: self.rtp(rng, received),
+            presented: self.presented(rng, received),
+            payload_type: rng.byte(),
+            p: u8::from(rng.chance(self.temper.presenting)),
+        }
+    }
+
+    fn received(&self, rng: &mut Rng) -> u64 {
+        let age = match rng.below(10) {
+            _ if rng.chance(self.temper.edges) => match rng.chance(90) {
+                true => rng.pick(&AGES),
+                false => rng.number(),
+            },
+            0..=7 => upto(rng, 3 * SECOND),
+            _ => upto(rng, 20 * SECOND),
+        };
+        let received = self.clock.ntp.wrapping_sub(age);
+        // The low 16 bits are lost in the presented time.
+        match rng.below(5) {
+            0 if age > 65_536 => received & !0xFFFF,
+            1 if age > 65_536 => received | 0xFFFF,
+            _ => received,
+        }
+    }
+
+    /// As old as the received time, a little off, or at a limit.
+    fn rtp(&self, rng: &mut Rng, received: u64) -> u32 {
+        let age = self.ticks(self.clock.ntp.wrapping_sub(received));
+        let age = match rng.below(10) {
+            _ if rng.chance(self.temper.edges) => match rng.chance(90) {
+                true => rng.pick(&self.media_ages()),
+                false => rng.word(),
+            },
+            0..=5 => age,
+            6..=8 => age.saturating_add(rng.below(100) as u32),
+            _ => age.saturating_sub(rng.below(100) as u32),
+        };
+        self.clock.rtp.wrapping_sub(age)
+    }
+
+    fn presented(&self, rng: &mut Rng, received: u64) -> u32 {
+        let m = (received >> 16) as u32;
+        if rng.chance(self.temper.edges) {
+            return match rng.below(4) {
+                0 => 0,
+                1 => rng.word(),
+                _ => m.wrapping_add(rng.pick(&STEPS)),
+            };
+        }
+        let longest = rng.pick(&[1, 40, 65_536, 131_072, STEP_LIMIT as usize]);
+        m.wrapping_add(rng.between(1, longest) as u32)
+    }
+
+    /// The times of a remembered report or nearly those, so that members are
+    /// equally late, or almost.
+    fn echo(&self, rng: &mut Rng) -> Report {
+        let mut report = rng.pick(&self.recent);
+        report.group = self.opening.group;
+        report.media = self.opening.media;
+        let one = rng.pick(&[1, u32::MAX]);
+        match rng.below(9) {
+            0 => report.rtp = report.rtp.wrapping_add(one),
+            1 => report.presented = report.presented.wrapping_add(one),
+            2 => report.received = report.received.wrapping_add(i64::from(one as i32) as u64),
+            3 => report.p ^= 1,
+            4 | 5 => self.shift(rng, &mut report),
+            _ => {}
+        }
+        report
+    }
+
+    /// Whole seconds earlier on all clocks: the lateness stays.
+    fn shift(&self, rng: &mut Rng, report: &mut Report) {
+        let seconds = rng.between(1, 9) as u32;
+        let ticks = seconds.wrapping_mul(self.opening.rate);
+        report.received = report.received.wrapping_sub(u64::from(seconds) << 32);
+        report.rtp = report.rtp.wrapping_sub(ticks);
+        report.presented = report.presented.wrapping_sub(seconds << 16);
+    }
+
+    fn spoil_identifiers(&self, rng: &mut Rng, report: &mut Report) {
+        match rng.below(5) {
+            0 => report.group ^= 1 << rng.below(32),
+            1 => report.media ^= 1 << rng.below(32),
+            2 => report.group = rng.pick(&[0, u32::MAX]),
+            3 => report.media = rng.word(),
+            _ => std::mem::swap(&mut report.group, &mut report.media),
+        }
+    }
+}
+
+/// From 0 up to `bound`, without it.
+fn upto(rng: &mut Rng, bound: u64) -> u64 {
+    rng.number() % bound
+}
+
+/// Any reading, often shortly before or after one that wraps.
+fn first_reading(rng: &mut Rng, rate: u32) -> Reading {
+    let wrap = match rng.below(6) {
+        0..=2 => 0,
+        // The short times wrap too.
+        3 => u64::from(rng.word()) << 48,
+        4 => rng.number(),
+        _ => 1 << 63,
+    };
+    let soon = upto(rng, 20 * SECOND).wrapping_sub(10 * SECOND);
+    let media_wrap = match rng.below(6) {
+        0..=2 => 0,
+        3 | 4 => rng.word(),
+        _ => 1 << 31,
+    };
+    let media_soon = upto(rng, 20 * u64::from(rate) + 1) as u32;
+    Reading {
+        ntp: wrap.wrapping_add(soon),
+        rtp: (media_soon.wrapping_add(media_wrap)).wrapping_sub(rate.wrapping_mul(10)),
+    }
+}
+
+/// Distinct numbers: near each other, at an end of the range, or any.
+fn sources(rng: &mut Rng, count: usize) -> Vec<u32> {
+    let step: u32 = rng.pick(&[1, 1 << 8, 1 << 16, 0x9E37_79B1]);
+    let first = match rng.below(3) {
+        0 => 0,
+        1 => u32::MAX,
+        _ => rng.word(),
+    };
+    let number = |index: usize| first.wrapping_add(step.wrapping_mul(index as u32));
+    (0..count).map(number).collect()
+}
+
+/// Origins that often differ in a single byte.
+fn origins(rng: &mut Rng, count: usize) -> Vec<Origin> {
+    let mut origins = vec![any_origin(rng)];
+    while origins.len() < count {
+        let known = rng.pick(&origins);
+        origins.push(match rng.chance(70) {
+            true => neighbour(rng, &known),
+            false => any_origin(rng),
+        });
+    }
+    origins
+}
+
+fn any_origin(rng: &mut Rng) -> Origin {
+    match rng.chance(10) {
+        true => Origin::default(),
+        false => Origin {
+            address: std::array::from_fn(|_| rng.byte()),
+            port: rng.word() as u16,
+        },
+    }
+}
+
+/// One of the eighteen bytes changed.
+fn neighbour(rng: &mut Rng, origin: &Origin) -> Origin {
+    let mut origin = *origin;
+    let change = rng.pick(&[1, 0x80, 0xFF]);
+    match rng.below(20) {
+        byte @ 0..=15 => origin.address[byte] ^= change,
+        16 | 17 => origin.port ^= u16::from(change),
+        _ => origin.port ^= u16::from(change) << 8,
+    }
+    origin
+}
