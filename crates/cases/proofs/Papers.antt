@@ -1,6 +1,6 @@
 -- The papers' cases hold, by computing the definitions.
 use mathlib.Core.Path.{refl}
-use Rattle.times.specs.Times.{ntpAge, rtpAge, step, unwrapped, expanded, delay}
+use Rattle.times.specs.Times.{minus, step, unwrapped, expanded, delay}
 use Rattle.origin.specs.Origins.{sameBytes, sameOrigin}
 use Rattle.places.specs.Places.{heldIn, lowestFree}
 use Rattle.register.specs.Register.{reportChecks}
@@ -14,7 +14,7 @@ use Rattle.writer.specs.Messages.{reportIsUnwritable}
 use Rattle.cases.specs.Cases.{papers, AllHold}
 
 pub papers-hold : AllHold papers
-unfolding AllHold papers ntpAge rtpAge step unwrapped expanded delay sameBytes sameOrigin heldIn lowestFree reportChecks lateness leader emptyTable rowsAt placeOf keepWord opened numberOf filed answered led choiceAmong choiceOf tableFrom reportIsUnwritable
+unfolding AllHold papers minus step unwrapped expanded delay sameBytes sameOrigin heldIn lowestFree reportChecks lateness leader emptyTable rowsAt placeOf keepWord opened numberOf filed answered led choiceAmong choiceOf tableFrom reportIsUnwritable
 papers-hold = (
   (refl, refl),
   (

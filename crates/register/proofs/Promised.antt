@@ -9,7 +9,7 @@ use lib.IntN.{ℤ, pos, _*ℤ_, +ℤ-idr}
 use lib.ListN.{length}
 use lib.Signed.{_≤ℤ_}
 use native.Mathlib.Omega.{arith}
-use Rattle.times.specs.Times.{ntpAge, delay, expanded, isBadlyPresented}
+use Rattle.times.specs.Times.{minus, delay, expanded, isBadlyPresented}
 use Rattle.times.proofs.Laws.{expanded-by-delay, delay-bound}
 use Rattle.register.specs.declared.Record.{Record}
 use Rattle.register.specs.declared.Reading.{Reading}
@@ -59,8 +59,8 @@ or-false false t e = e
 -- the expanded presentation minus received, modulo 2^64, is the delay
 pub delay-again :
     (received presented : ℕ) → received < 2 ^ 64 →
-    ntpAge (expanded received presented) received ≡ delay received presented
-unfolding ntpAge
+    minus 64 (expanded received presented) received ≡ delay received presented
+unfolding minus
 delay-again received presented small =
     let most : _ = delay-bound received presented in
     rw (expanded-by-delay received presented) (omega arith)

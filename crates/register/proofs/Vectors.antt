@@ -4,7 +4,7 @@ use Prim.Native.Nat.{ℕ, _+_, _*_, _^_}
 use mathlib.Core.List.{List, [], _∷_}
 use mathlib.Core.Path.{_≡_, refl}
 use lib.IntN.{pos}
-use Rattle.times.specs.Times.{ntpAge, rtpAge, step, unwrapped, expanded, delay}
+use Rattle.times.specs.Times.{minus, step, unwrapped, expanded, delay}
 use Rattle.origin.specs.declared.Origin.{Origin}
 use Rattle.origin.specs.Origins.{sameBytes, sameOrigin}
 use Rattle.register.specs.declared.Record.{Record}
@@ -121,6 +121,6 @@ cases :
     -- 20 where no row is fresh, and without rows
     × (choice opening (later (seconds 10)) (ten ∷ twenty ∷ []) ≡ Choice.Refused 20)
     × (choice opening reading [] ≡ Choice.Refused 20)
-unfolding keep some renewed reportChecks farewellChecks answer after answers afterAll lateness precedesAll choice sameBytes sameOrigin ntpAge rtpAge step unwrapped expanded delay
+unfolding keep some renewed reportChecks farewellChecks answer after answers afterAll lateness precedesAll choice sameBytes sameOrigin minus step unwrapped expanded delay
 cases =
     (refl, refl, refl, refl, refl, refl, refl, refl, refl, refl, refl, refl, refl, refl, refl, refl, refl)

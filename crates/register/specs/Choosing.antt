@@ -6,7 +6,7 @@ use lib.Dec.{leb, eqb}
 use lib.IntN.{ℤ, pos, subℕ, _+ℤ_, _*ℤ_}
 use lib.Signed.{leZ, ltZ}
 use lib.ListN.{length}
-use Rattle.times.specs.Times.{ntpAge, rtpAge, delay, expanded}
+use Rattle.times.specs.Times.{minus, ntpAge, rtpAge, delay, expanded}
 use Rattle.register.specs.declared.Record.{Record}
 use Rattle.register.specs.declared.Reading.{Reading}
 use Rattle.register.specs.declared.Target.{Target}
@@ -81,7 +81,7 @@ choice o at rows = firstOf (length (counted o at rows)) (chosen o at rows)
 
 -- the delay of the three times in an answer: presented minus received modulo 2^64, or 0 where presented is 0
 abbrev pub delayBetween : ℕ → ℕ → ℕ
-delayBetween received presented = cond (eqb presented 0) 0 (ntpAge presented received)
+delayBetween received presented = cond (eqb presented 0) 0 (minus 64 presented received)
 
 -- the lateness of three times, a settings packet's
 abbrev pub timesLateness : Opening → Reading → (received rtp presented : ℕ) → ℤ

@@ -2,11 +2,11 @@
 -- holds of any presentation after arrival.
 use Prim.Native.Nat.{ℕ, _+_, _-_, _*_, _/_, _%_, _^_, _≤_, _<_}
 use mathlib.Core.Path.{_≡_, refl, sym, ap, _∙_}
-use mathlib.Core.Bool.{Bool, true, false, cond}
+use mathlib.Core.Bool.{Bool, true, false}
 use lib.Dec.{eqb}
 use native.Mathlib.Omega.{arith}
-use borrow.Author.Tests.{eqb-true, eqb-false, eq-eqb, ne-eqb}
-use Rattle.times.specs.Times.{middle, fullTurn, step, unwrapped, expanded, delay, ntpAge, rtpAge}
+use borrow.Author.Tests.{eqb-false, eq-eqb, ne-eqb}
+use Rattle.times.specs.Times.{minus, middle, fullTurn, step, unwrapped, expanded, delay}
 
 -- ---- step
 
@@ -18,19 +18,19 @@ fullTurn-bounds s h = go (eqb s 0) refl
     go false e = rw e (omega (arith, eqb-false s 0 e), omega arith)
 
 pub step-bounds : (received presented : ℕ) → (1 ≤ step received presented) × (step received presented ≤ 2 ^ 32)
-unfolding step rtpAge
+unfolding step minus
 step-bounds received presented = fullTurn-bounds ((presented + 2 ^ 32 - middle received) % 2 ^ 32) (omega arith)
 
 -- the step is a full turn where presented is M
 pub step-zero :
-    (received presented t : ℕ) → t ≡ rtpAge presented (middle received) → t ≡ 0 → 2 ^ 32 ≡ step received presented
+    (received presented t : ℕ) → t ≡ minus 32 presented (middle received) → t ≡ 0 → 2 ^ 32 ≡ step received presented
 unfolding step
-step-zero received presented t e z = rw (eq-eqb (rtpAge presented (middle received)) 0 (sym e ∙ z)) refl
+step-zero received presented t e z = rw (eq-eqb (minus 32 presented (middle received)) 0 (sym e ∙ z)) refl
 
 pub step-other :
-    (received presented t : ℕ) → t ≡ rtpAge presented (middle received) → (t ≡ 0 → ⊥) → t ≡ step received presented
+    (received presented t : ℕ) → t ≡ minus 32 presented (middle received) → (t ≡ 0 → ⊥) → t ≡ step received presented
 unfolding step
-step-other received presented t e h = rw (ne-eqb (rtpAge presented (middle received)) 0 (λ z. h (e ∙ z))) e
+step-other received presented t e h = rw (ne-eqb (minus 32 presented (middle received)) 0 (λ z. h (e ∙ z))) e
 
 -- ---- delay and expanded
 

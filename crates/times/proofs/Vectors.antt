@@ -1,8 +1,8 @@
 -- The definitions at the papers' cases P1, P2, P6, P7, P8, P9 and P10.
 use Prim.Native.Nat.{ℕ, _+_, _-_, _*_, _^_}
 use mathlib.Core.Path.{_≡_, refl}
-use mathlib.Core.Bool.{Bool, true, false}
-use Rattle.times.specs.Times.{step, unwrapped, expanded, delay, ntpAge, rtpAge, isFar, isAged, isBadlyPresented}
+use mathlib.Core.Bool.{true, false}
+use Rattle.times.specs.Times.{minus, step, unwrapped, expanded, delay, ntpAge, rtpAge, isFar, isAged, isBadlyPresented}
 
 -- whole seconds as a full time
 abbrev seconds : ℕ → ℕ
@@ -16,7 +16,7 @@ p1-p2 :
     × (rtpAge 9000000 8910000 ≡ 90000)
     × (ntpAge (seconds 1000) (seconds 998) ≡ 2 * 2 ^ 32)
     × (rtpAge 9000000 8820000 ≡ 180000)
-unfolding step unwrapped delay ntpAge rtpAge
+unfolding step unwrapped delay minus
 p1-p2 = (refl, refl, refl, refl, refl, refl)
 
 -- P6 and P7: received before the wrap, N and the presentation behind it; presented 0 expands to 0
@@ -26,7 +26,7 @@ p6-p7 :
     × (expanded 0xFFFFFFFF00000000 0x00004000 ≡ 0x40000000)
     × (isBadlyPresented 0xFFFFFFFF00000000 0x00004000 ≡ false)
     × (isBadlyPresented 0xFFFFFFFF00000000 0 ≡ true)
-unfolding step unwrapped delay expanded ntpAge rtpAge
+unfolding step unwrapped delay expanded minus
 p6-p7 = (refl, refl, refl, refl, refl)
 
 -- P8: received 970 s passes 15, one unit earlier is refused; N passes, N plus one unit is refused
@@ -35,7 +35,7 @@ p8 :
     × (isFar (seconds 1000) (seconds 970 - 1) ≡ true)
     × (isFar (seconds 1000) (seconds 1000) ≡ false)
     × (isFar (seconds 1000) (seconds 1000 + 1) ≡ true)
-unfolding ntpAge
+unfolding minus
 p8 = (refl, refl, refl, refl)
 
 -- P9: RTP 3,600,000 passes 16; 3,599,999 and 9,000,001 are refused
@@ -43,18 +43,18 @@ p9 :
     (isAged 90000 9000000 3600000 ≡ false)
     × (isAged 90000 9000000 3599999 ≡ true)
     × (isAged 90000 9000000 9000001 ≡ true)
-unfolding rtpAge
+unfolding minus
 p9 = (refl, refl, refl)
 
 -- P10: a delay of 30 s passes 17, one unit of 2^-16 s more does not
 p10 :
     (isBadlyPresented (seconds 999) 0x04050000 ≡ false)
     × (isBadlyPresented (seconds 999) 0x04050001 ≡ true)
-unfolding step unwrapped delay expanded rtpAge
+unfolding step unwrapped delay expanded minus
 p10 = (refl, refl)
 
 -- a step of 0 is a full turn: a delay of some 18 hours
 full-turn :
     (delay (seconds 999) 0x03E70000 ≡ 2 ^ 48) × (isBadlyPresented (seconds 999) 0x03E70000 ≡ true)
-unfolding step unwrapped delay expanded rtpAge
+unfolding step unwrapped delay expanded minus
 full-turn = (refl, refl)

@@ -6,13 +6,17 @@ use lib.Dec.{ltb, eqb}
 
 -- ---- ages
 
--- (N − received) modulo 2^64
-unfoldable pub ntpAge : ℕ → ℕ → ℕ
-ntpAge n received = (n + 2 ^ 64 - received) % 2 ^ 64
+-- (a − b) modulo 2^width, for numbers of that width
+unfoldable pub minus : (width a b : ℕ) → ℕ
+minus width a b = (a + 2 ^ width - b) % 2 ^ width
 
--- (R − RTP) modulo 2^32, and so for any two numbers of 32 bits
-unfoldable pub rtpAge : ℕ → ℕ → ℕ
-rtpAge r rtp = (r + 2 ^ 32 - rtp) % 2 ^ 32
+-- NTP age: (N − received) modulo 2^64
+abbrev pub ntpAge : ℕ → ℕ → ℕ
+ntpAge n received = minus 64 n received
+
+-- RTP age: (R − RTP) modulo 2^32
+abbrev pub rtpAge : ℕ → ℕ → ℕ
+rtpAge r rtp = minus 32 r rtp
 
 -- ---- presentation
 
@@ -27,7 +31,7 @@ middle received = received / 2 ^ 16 % 2 ^ 32
 -- document 01's step, in units of 2^-16 s: (presented − M) modulo 2^32, where 0 is read as 2^32, since presented is
 -- greater than received
 unfoldable pub step : ℕ → ℕ → ℕ
-step received presented = fullTurn (rtpAge presented (middle received))
+step received presented = fullTurn (minus 32 presented (middle received))
 
 -- the presentation before wrapping: received with its low 16 bits cleared, plus step × 2^16
 unfoldable pub unwrapped : ℕ → ℕ → ℕ

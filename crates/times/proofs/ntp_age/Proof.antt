@@ -1,12 +1,12 @@
 -- The age of a received time: the difference, or what is left of 2^64 where it wraps.
 use native.Mathlib.Omega.{arith}
 use borrow.Author.Needs.{needs}
-use Rattle.times.specs.Times.{ntpAge}
+use Rattle.times.specs.Times.{minus}
 use Rattle.times.proofs.ntp_age.Statement.{statement}
 use Rattle.times.proofs.ntp_age.Tie as tie
 
 returns : tie.Need-returns
-unfolding ntpAge
+unfolding minus
 returns c = omega arith
 
 sub-result : tie.Need-sub-result
@@ -19,7 +19,7 @@ add-result : tie.Need-add-result
 add-result c = search needs
 
 returns-2 : tie.Need-returns-2
-unfolding ntpAge
+unfolding minus
 returns-2 c = omega arith
 
 pub ntp-age-spec : {M : Type 1} → statement M

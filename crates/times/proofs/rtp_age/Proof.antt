@@ -1,12 +1,12 @@
 -- The age of an RTP time: the difference, or what is left of 2^32 where it wraps.
 use native.Mathlib.Omega.{arith}
 use borrow.Author.Needs.{needs}
-use Rattle.times.specs.Times.{rtpAge}
+use Rattle.times.specs.Times.{minus}
 use Rattle.times.proofs.rtp_age.Statement.{statement}
 use Rattle.times.proofs.rtp_age.Tie as tie
 
 returns : tie.Need-returns
-unfolding rtpAge
+unfolding minus
 returns c = omega arith
 
 sub-result : tie.Need-sub-result
@@ -19,7 +19,7 @@ add-result : tie.Need-add-result
 add-result c = search needs
 
 returns-2 : tie.Need-returns-2
-unfolding rtpAge
+unfolding minus
 returns-2 c = omega arith
 
 pub rtp-age-spec : {M : Type 1} → statement M
