@@ -1,12 +1,20 @@
 # make test     every check, as .ci/run does
 # make run      shows the items of the sample datagram
 # make archive  target/staticlib/libprunepocket.a, for C or Rust to link
+# make install  header, archive and pkg-config file under PREFIX, by way of DESTDIR
+# make host     the example host, on the loopback
 # make ctest    the C test
 # make rtest    the Rust tests
 # make bench    times the archive beside a Rust decoder
 # make clean    removes all that was built
 
-.PHONY: test run archive ctest rtest bench clean
+VERSION = 0.1.0
+PREFIX = /usr/local
+DESTDIR =
+
+ARCHIVE = target/staticlib/libprunepocket.a
+
+.PHONY: test run archive install host ctest rtest bench clean
 
 test:
 	@tools/test
@@ -17,6 +25,20 @@ run:
 
 archive:
 	tools/archive
+
+# Proved anew only where a source is newer: whoever installs may have no kit.
+$(ARCHIVE): $(shell find crates -type f)
+	tools/archive
+
+install: $(ARCHIVE)
+	tools/install '$(VERSION)' '$(PREFIX)' '$(DESTDIR)'
+
+target/c/host: examples/host.c include/prunepocket.h $(ARCHIVE)
+	mkdir -p target/c
+	$(CC) -std=c11 -Wall -Wextra -Werror -g -Iinclude -o $@ examples/host.c $(ARCHIVE)
+
+host: target/c/host
+	target/c/host
 
 ctest: archive
 	tools/test-c
