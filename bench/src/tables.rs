@@ -128,13 +128,32 @@ fn time_choose(members: u32) -> (f64, f64) {
     )
 }
 
+/// Copies of a table of the archive and of the peer: what passing one by value costs at least.
+fn time_copy(members: u32) -> (f64, f64) {
+    let Pair { ours, peers } = Pair::with(members);
+    let mut our_copy = ours;
+    let mut peer_copy = peers.clone();
+    interleaved(
+        1,
+        || {
+            our_copy = *black_box(&ours);
+            black_box(&our_copy);
+        },
+        || {
+            peer_copy.clone_from(black_box(&peers));
+            black_box(&peer_copy);
+        },
+    )
+}
+
 pub fn print() {
     println!();
     println!(
         "{:<32}{:>8}{:>10}{:>10}{:>12}",
         "member table", "members", "ours ns", "peer ns", "ours/peer"
     );
-    let calls: [(&str, fn(u32) -> (f64, f64)); 4] = [
+    let calls: [(&str, fn(u32) -> (f64, f64)); 5] = [
+        ("copy of the table", time_copy),
         ("report", time_report),
         ("farewell, refused", time_refused_farewell),
         ("sweep", time_sweep),
