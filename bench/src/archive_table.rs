@@ -81,6 +81,17 @@ extern "C" {
     pub fn prunepocket_choose(table: Table, reading: Reading) -> Followed;
 }
 
+impl Table {
+    pub fn count(&self) -> u32 {
+        self.held.count_ones()
+    }
+
+    /// The source number of the member at a place.
+    pub fn source_at(&self, place: usize) -> Option<u32> {
+        (self.held >> place & 1 == 1).then(|| self.members[place].source)
+    }
+}
+
 impl From<&peer_table::Origin> for Origin {
     fn from(origin: &peer_table::Origin) -> Self {
         Origin {

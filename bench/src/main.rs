@@ -6,9 +6,9 @@ mod archive_table;
 mod inputs;
 mod messages;
 mod peer;
+mod peer_encoder;
 mod peer_table;
 mod tables;
-mod peer_encoder;
 
 use inputs::{Input, Random};
 use peer::{Refusal, ROW};

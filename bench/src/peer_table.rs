@@ -61,7 +61,10 @@ pub struct Target {
 /// What stands in a place before its first member.
 const BLANK: Record = Record {
     source: 0,
-    origin: Origin { address: [0; 16], port: 0 },
+    origin: Origin {
+        address: [0; 16],
+        port: 0,
+    },
     report: Report {
         sender: 0,
         payload_type: 0,
@@ -122,18 +125,30 @@ impl Report {
 
     /// Refusal 15: received is not within 30 s at or before the reading.
     fn check_received(&self, reading: &Reading) -> Result<(), u32> {
-        if self.ntp_age(reading) > LIMIT { Err(15) } else { Ok(()) }
+        if self.ntp_age(reading) > LIMIT {
+            Err(15)
+        } else {
+            Ok(())
+        }
     }
 
     /// Refusal 16: the RTP age is above 60 s of media clock.
     /// The product fits, as an opened table's rate is at most 192,000.
     fn check_rtp(&self, reading: &Reading, rate: u32) -> Result<(), u32> {
-        if self.rtp_age(reading) > 60 * rate { Err(16) } else { Ok(()) }
+        if self.rtp_age(reading) > 60 * rate {
+            Err(16)
+        } else {
+            Ok(())
+        }
     }
 
     /// Refusal 17, only where P is 1: a delay over 30 s, or an expanded presentation of 0.
     fn check_presentation(&self) -> Result<(), u32> {
-        if self.p && (self.delay() > LIMIT || self.expanded() == 0) { Err(17) } else { Ok(()) }
+        if self.p && (self.delay() > LIMIT || self.expanded() == 0) {
+            Err(17)
+        } else {
+            Ok(())
+        }
     }
 
     /// Fresh: neither 15 nor 16 would be given at this reading.
@@ -169,7 +184,13 @@ impl Table {
         if group == 0 || group == u32::MAX || !(1..=192_000).contains(&rate) {
             return Err(12);
         }
-        Ok(Table { group, media, rate, held: 0, places: [BLANK; PLACES] })
+        Ok(Table {
+            group,
+            media,
+            rate,
+            held: 0,
+            places: [BLANK; PLACES],
+        })
     }
 
     /// Files a report under its source number, or refuses it with the first of 13 to 18.
@@ -227,12 +248,20 @@ impl Table {
 
     /// The member at a place; none where the place is free or not below 64.
     pub fn member_at(&self, place: usize) -> Option<&Record> {
-        if place < PLACES && (self.held >> place) & 1 == 1 { Some(&self.places[place]) } else { None }
+        if place < PLACES && (self.held >> place) & 1 == 1 {
+            Some(&self.places[place])
+        } else {
+            None
+        }
     }
 
     /// Refusal 13: a report of another group or media source.
     fn check_subject(&self, report: &Report) -> Result<(), u32> {
-        if report.group == self.group && report.media == self.media { Ok(()) } else { Err(13) }
+        if report.group == self.group && report.media == self.media {
+            Ok(())
+        } else {
+            Err(13)
+        }
     }
 
     /// The place that holds the number, if any; 14 where another origin holds it.
@@ -246,7 +275,11 @@ impl Table {
     /// The lowest free place; 18 where all are held.
     fn free_place(&self) -> Result<usize, u32> {
         let place = (!self.held).trailing_zeros() as usize;
-        if place < PLACES { Ok(place) } else { Err(18) }
+        if place < PLACES {
+            Ok(place)
+        } else {
+            Err(18)
+        }
     }
 
     /// The held places whose members are fresh at the reading.
@@ -261,7 +294,9 @@ impl Table {
 
     /// Of these places, those whose report meets the condition.
     fn select(&self, among: u64, meets: impl Fn(&Report) -> bool) -> u64 {
-        Ones(among).fold(0, |word, place| word | (u64::from(meets(&self.places[place].report)) << place))
+        Ones(among).fold(0, |word, place| {
+            word | (u64::from(meets(&self.places[place].report)) << place)
+        })
     }
 
     /// Of these places, the member with the greatest lateness and then the lowest source.
@@ -289,8 +324,14 @@ impl Table {
 mod tests {
     use super::*;
 
-    const NOON: Reading = Reading { ntp: 1000 * SECOND, rtp: 9_000_000 };
-    const ONE: Reading = Reading { ntp: SECOND, rtp: 9_000_000 };
+    const NOON: Reading = Reading {
+        ntp: 1000 * SECOND,
+        rtp: 9_000_000,
+    };
+    const ONE: Reading = Reading {
+        ntp: SECOND,
+        rtp: 9_000_000,
+    };
 
     fn table() -> Table {
         Table::open(42, 7, 90_000).unwrap()
@@ -312,7 +353,11 @@ mod tests {
             rtp,
             presented,
         };
-        Record { source, origin: origin(1, 5000 + source as u16), report }
+        Record {
+            source,
+            origin: origin(1, 5000 + source as u16),
+            report,
+        }
     }
 
     fn p1() -> Record {
@@ -348,11 +393,15 @@ mod tests {
 
     /// The members, by place.
     fn members(table: &Table) -> Vec<(usize, Record)> {
-        (0..=PLACES).filter_map(|place| table.member_at(place).map(|m| (place, *m))).collect()
+        (0..=PLACES)
+            .filter_map(|place| table.member_at(place).map(|m| (place, *m)))
+            .collect()
     }
 
     fn lateness(record: &Record, reading: &Reading) -> i64 {
-        record.report.lateness(record.report.delay(), reading, 90_000)
+        record
+            .report
+            .lateness(record.report.delay(), reading, 90_000)
     }
 
     /// Tries one report on a table of its own.
@@ -515,7 +564,11 @@ mod tests {
         let mut table = p3_table();
         let before = members(&table);
         for twin_origin in [origin(1, 6000), origin(2, 5010)] {
-            let twin = Record { source: 10, origin: twin_origin, report: p2().report };
+            let twin = Record {
+                source: 10,
+                origin: twin_origin,
+                report: p2().report,
+            };
             assert_eq!(table.report(&twin, &NOON), Err(14));
             assert_eq!(table.farewell(10, &twin_origin), Err(14));
             assert_eq!(members(&table), before);
@@ -533,7 +586,10 @@ mod tests {
             assert_eq!(table.farewell(10, &twin), Err(14));
         }
         for bit in [0x0001, 0x0100] {
-            let twin = Origin { port: own.port ^ bit, ..own };
+            let twin = Origin {
+                port: own.port ^ bit,
+                ..own
+            };
             assert_eq!(table.farewell(10, &twin), Err(14));
         }
         assert_eq!(table.farewell(10, &own), Ok(()));
@@ -542,7 +598,10 @@ mod tests {
     #[test]
     fn twin_takes_a_number_given_up() {
         let mut table = p3_table();
-        let twin = Record { origin: origin(1, 6000), ..p1() };
+        let twin = Record {
+            origin: origin(1, 6000),
+            ..p1()
+        };
         assert_eq!(table.farewell(10, &p1().origin), Ok(()));
         assert_eq!(table.farewell(10, &p1().origin), Err(19));
         assert_eq!(table.report(&twin, &NOON), Ok(()));
@@ -579,7 +638,10 @@ mod tests {
             assert_eq!(table.report(&record, &NOON), Ok(()));
         }
         let target = table.choose(&NOON).unwrap();
-        assert_eq!((target.source, target.presented, target.counted), (10, 0, 2));
+        assert_eq!(
+            (target.source, target.presented, target.counted),
+            (10, 0, 2)
+        );
         let presenting = record(30, 999 * SECOND, 8_910_000, 0x03E7_0001);
         assert_eq!(table.report(&presenting, &NOON), Ok(()));
         let target = table.choose(&NOON).unwrap();
@@ -612,7 +674,8 @@ mod tests {
                 (1, LIMIT, 60 * rate),
                 (LIMIT, LIMIT, 60 * rate),
             ] {
-                let report = record(1, NOON.ntp - ntp_age, NOON.rtp.wrapping_sub(rtp_age), 0).report;
+                let report =
+                    record(1, NOON.ntp - ntp_age, NOON.rtp.wrapping_sub(rtp_age), 0).report;
                 let exact = i128::from(rate) * (i128::from(delay) - i128::from(ntp_age))
                     + (i128::from(rtp_age) << 32);
                 assert_eq!(i128::from(report.lateness(delay, &NOON, rate)), exact);

@@ -2,8 +2,8 @@
 //! table in place.
 
 use crate::archive_table as ours;
-use crate::peer_table as peer;
 use crate::interleaved;
+use crate::peer_table as peer;
 use std::hint::black_box;
 
 const SECOND: u64 = 1 << 32;
@@ -66,12 +66,20 @@ impl Pair {
     fn agree(&self, reading: &peer::Reading) {
         let followed = unsafe { ours::prunepocket_choose(self.ours, reading.into()) };
         assert_eq!(followed.answer(), self.peers.choose(reading));
+        assert_eq!(self.ours.count(), self.peers.count());
+        for place in 0..64 {
+            let peers = self.peers.member_at(place).map(|member| member.source);
+            assert_eq!(self.ours.source_at(place), peers);
+        }
     }
 }
 
 /// A report of a member, or of the first source where there is none. It stays.
 fn time_report(members: u32) -> (f64, f64) {
-    let Pair { mut ours, mut peers } = Pair::with(members);
+    let Pair {
+        mut ours,
+        mut peers,
+    } = Pair::with(members);
     let known = record(members.max(1));
     let told = ours::Record::from(&known);
     let at = ours::Reading::from(&READING);
@@ -82,13 +90,18 @@ fn time_report(members: u32) -> (f64, f64) {
             ours = answer.table;
             black_box(answer.number);
         },
-        || drop(black_box(black_box(&mut peers).report(black_box(&known), black_box(&READING)))),
+        || {
+            let _ = black_box(black_box(&mut peers).report(black_box(&known), black_box(&READING)));
+        },
     )
 }
 
 /// A farewell of the last member from another origin: 14, or 19 without members.
 fn time_refused_farewell(members: u32) -> (f64, f64) {
-    let Pair { mut ours, mut peers } = Pair::with(members);
+    let Pair {
+        mut ours,
+        mut peers,
+    } = Pair::with(members);
     let mut elsewhere = record(members).origin;
     elsewhere.port += 1;
     let origin = ours::Origin::from(&elsewhere);
@@ -99,13 +112,20 @@ fn time_refused_farewell(members: u32) -> (f64, f64) {
             ours = answer.table;
             black_box(answer.number);
         },
-        || drop(black_box(black_box(&mut peers).farewell(black_box(members), black_box(&elsewhere)))),
+        || {
+            let _ = black_box(
+                black_box(&mut peers).farewell(black_box(members), black_box(&elsewhere)),
+            );
+        },
     )
 }
 
 /// A sweep that removes nobody.
 fn time_sweep(members: u32) -> (f64, f64) {
-    let Pair { mut ours, mut peers } = Pair::with(members);
+    let Pair {
+        mut ours,
+        mut peers,
+    } = Pair::with(members);
     let at = ours::Reading::from(&READING);
     interleaved(
         1,
@@ -124,7 +144,9 @@ fn time_choose(members: u32) -> (f64, f64) {
             ours = followed.table;
             black_box(followed.number);
         },
-        || drop(black_box(black_box(&peers).choose(black_box(&READING)))),
+        || {
+            let _ = black_box(black_box(&peers).choose(black_box(&READING)));
+        },
     )
 }
 
@@ -162,7 +184,10 @@ pub fn print() {
     for (name, time) in calls {
         for members in [0, 1, 32, 64] {
             let (ours, peers) = time(members);
-            println!("{name:<32}{members:>8}{ours:>10.1}{peers:>10.1}{:>12.2}", ours / peers);
+            println!(
+                "{name:<32}{members:>8}{ours:>10.1}{peers:>10.1}{:>12.2}",
+                ours / peers
+            );
         }
     }
 }
