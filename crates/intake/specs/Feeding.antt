@@ -35,9 +35,11 @@ called t calls answers =
     (record { number = 0; place = 0; count = length calls; table = tableFrom t calls })
 
 -- the numbers at the front, and behind them what was there
+abbrev pub calledInto : Table → List Call → List ℕ → List ℕ
+calledInto t calls answers = answersFrom t calls ++ drop (length calls) answers
+
 abbrev pub calledAfter : Table → List Call → List ℕ → List ℕ
-calledAfter t calls answers =
-    cond (ltb (length answers) (length calls)) answers (answersFrom t calls ++ drop (length calls) answers)
+calledAfter t calls answers = cond (ltb (length answers) (length calls)) answers (calledInto t calls answers)
 
 -- ---- a datagram
 

@@ -1,0 +1,107 @@
+-- One item after the other; `Feeding` says what is left to take in. The measure is how often the cursor may be asked.
+use mathlib.Core.Path.{_≡_, refl, sym, ap, _∙_}
+use native.Mathlib.Omega.{arith}
+use borrow.Author.Needs.{needs}
+use Rattle.rtcp.specs.Cursor.{given}
+use Rattle.intake.proofs.Laws.{given-item, given-end, given-none, Feeding, feeding-start, feeding-room, feeding-item, feeding-end}
+use Rattle.intake.proofs.feed.Statement.{statement}
+use Rattle.intake.proofs.feed.Tie as tie
+use Rattle.intake.proofs.feed.Reads as reads
+use Rattle.intake.proofs.feed.Lts as lts
+use Rattle.intake.proofs.put.Reads as put-reads
+use Rattle.rtcp.proofs.next_item.Reads as next-item-reads
+use Rattle.table.proofs.Table.intake.Reads as intake-reads
+
+abbrev Inv-loop : tie.InvT-loop
+Inv-loop d n origin at answers₀ table₀ cursor₀ left₀ place₀ answers table cursor left place =
+    Feeding origin at table₀ answers₀ (given n d cursor₀) table answers place (given left d cursor)
+
+abbrev μ-loop : tie.MeasureT-loop
+μ-loop d n origin at answers₀ table₀ cursor₀ left₀ place₀ answers table cursor left place = left
+
+loop-holds : tie.Need-loop-holds Inv-loop μ-loop
+loop-holds c = feeding-start (c .before .before .pre)
+
+next-item-requires : tie.Need-next-item-requires Inv-loop μ-loop
+next-item-requires c κs = search needs
+
+enum-told : tie.Need-enum-told Inv-loop μ-loop
+enum-told c = search needs
+
+same-length : tie.Need-same-length Inv-loop μ-loop
+same-length c = c .before .before .before .before .loop .inv .long
+
+returns : tie.Need-returns Inv-loop μ-loop
+returns c =
+    let start = c .before .before .before .before .before .before .before in
+    let loop = c .before .before .before .before .loop in
+    let next-item = c .before .before .next-item in
+    feeding-end (loop .inv)
+    (given-end (loop .left) (start .args .d .now) (loop .cursor) (sym (next-item .ensures) ∙ c .enum-told .given .1))
+    (start .pre)
+
+enum-known-x : tie.Need-enum-known-x Inv-loop μ-loop
+enum-known-x c = search needs
+
+intake-requires : tie.Need-intake-requires Inv-loop μ-loop
+intake-requires c κs = search needs
+
+put-requires : tie.Need-put-requires Inv-loop μ-loop
+put-requires c κs =
+    let start = c .before .before .before .before .before .before .before .before .before .before in
+    let loop = c .before .before .before .before .before .before .before .loop in
+    let loop-test = c .before .before .before .before .before .before .loop-test in
+    let next-item = c .before .before .before .before .before .next-item in
+    let x = c .before .before .before .x in
+    feeding-room (loop .inv) _ _ _
+    (given-item (loop .left) (start .args .d .now) (loop .cursor) _ _ (loop-test .taken) (sym (next-item .ensures) ∙ x .given .1))
+    (c .before .intake .ensures)
+
+sub-left : tie.Need-sub-left Inv-loop μ-loop
+sub-left c = search needs
+
+loop-less : tie.Need-loop-less Inv-loop μ-loop
+loop-less c = search needs
+
+loop-again : tie.Need-loop-again Inv-loop μ-loop
+loop-again c =
+    let start = c .before .before .before .before .before .before .before .before .before .before .before .before .before .before in
+    let loop = c .before .before .before .before .before .before .before .before .before .before .before .loop in
+    let loop-test = c .before .before .before .before .before .before .before .before .before .before .loop-test in
+    let next-item = c .before .before .before .before .before .before .before .before .before .next-item in
+    let x = c .before .before .before .before .before .before .before .x in
+    let put = c .before .before .before .put in
+    feeding-item (loop .inv) _ _ _ _ _
+    (given-item (loop .left) (start .args .d .now) (loop .cursor) _ _ (loop-test .taken) (sym (next-item .ensures) ∙ x .given .1))
+    (c .before .before .before .before .before .intake .ensures)
+    (put .ensures .1)
+    (put .ensures .0)
+
+same-length-2 : tie.Need-same-length-2 Inv-loop μ-loop
+same-length-2 c = c .before .loop .inv .long
+
+returns-2 : tie.Need-returns-2 Inv-loop μ-loop
+returns-2 c =
+    let start = c .before .before .before .before in
+    let loop = c .before .loop in
+    feeding-end (loop .inv) (given-none (loop .left) (start .args .d .now) (loop .cursor) (omega arith)) (start .pre)
+
+pub feed-spec : {M : Type 1} → statement M
+feed-spec =
+    tie.close
+    (tie.spec
+    Inv-loop
+    μ-loop
+    loop-holds
+    next-item-requires
+    enum-told
+    same-length
+    returns
+    enum-known-x
+    intake-requires
+    put-requires
+    sub-left
+    loop-less
+    loop-again
+    same-length-2
+    returns-2)
