@@ -6,21 +6,30 @@ use mathlib.Core.List.{List, [], _∷_, _++_}
 use lib.ListN.{length, drop, set, length-append}
 use lib.Seq.{sets, sets-eq, length-sets}
 use native.Mathlib.Omega.{arith}
+use borrow.Author.Tests.{lt-ltb, le-ltb}
 use Rattle.idms.specs.declared.Found.{Found}
 use Rattle.idms.specs.declared.Item.{Item}
 use Rattle.idms.specs.declared.Placed.{Placed}
+use Rattle.idms.specs.declared.Refusal.{Refusal}
 use Rattle.origin.specs.declared.Origin.{Origin}
 use Rattle.register.specs.declared.Reading.{Reading}
 use Rattle.register.specs.Register.{Call}
 use Rattle.rtcp.specs.declared.cursor.Cursor.{Cursor}
+use Rattle.rtcp.specs.declared.cursor.Opened.{Opened}
 use Rattle.rtcp.specs.declared.cursor.Step.{Step}
-use Rattle.rtcp.specs.Cursor.{nextOf, given}
+use Rattle.rtcp.specs.declared.walk.Count.{Count}
+use Rattle.rtcp.specs.Refusals.{Check, passed, refused}
+use Rattle.rtcp.specs.Datagram.{datagramCheck, datagramItems}
+use Rattle.rtcp.specs.Cursor.{nextOf, given, start}
+use Rattle.rtcp.specs.Answers.{refusal, countOf, openedOf}
+use Rattle.rtcp.proofs.Theorems.{cursor-in-turn}
 use Rattle.table.specs.declared.Table.{Table}
 use Rattle.table.specs.declared.Taken.{Taken}
 use Rattle.table.specs.Calls.{answered}
 use Rattle.table.specs.Intake.{itemTaken, taken}
 use Rattle.table.specs.History.{answersFrom, tableFrom}
-use Rattle.intake.specs.Feeding.{callsOf, callsIn, calledInto}
+use Rattle.intake.specs.declared.Fed.{Fed}
+use Rattle.intake.specs.Feeding.{callsOf, callsIn, calledInto, fed, answersAfter}
 use Rattle.intake.specs.Steps.{weight, callCount, numbersOf}
 
 -- ---- given: what a cursor gives, by what it gives next
@@ -177,11 +186,85 @@ module _ {origin : Origin} {at : Reading} {t₀ : Table} {answers₀ : List ℕ}
     unfolding callsIn tableFrom answersFrom
     feeding-end e h =
         let calls₀ = callsIn origin at items₀ in
-        let many : length (answersFrom t₀ calls₀) ≡ length calls₀ = length-answers t₀ calls₀ in
-        (
+        let many : length (answersFrom t₀ calls₀) ≡ length calls₀ = length-answers t₀ calls₀ in (
           sym (ap (λ (l : List Placed). tableFrom t (callsIn origin at l)) e) ∙ f .table-is,
           sym (ap (λ (l : List Placed). sets answers place (answersFrom t (callsIn origin at l))) e)
               ∙ f .answers-are
               ∙ sets-front answers₀ (answersFrom t₀ calls₀) (omega arith)
               ∙ ap (λ (k : ℕ). answersFrom t₀ calls₀ ++ drop k answers₀) many,
         )
+
+-- ---- a datagram: what opening it says of its checks and its items
+
+pub opened-items :
+    (d : List ℕ) (n : ℕ) (c : Cursor) → openedOf d ≡ Opened.Items n c
+    → (datagramCheck d ≡ passed) × (given n d c ≡ datagramItems d)
+unfolding openedOf countOf
+opened-items d n c e = go (datagramCheck d) refl
+  where
+    go : (k : Check) → datagramCheck d ≡ k → (datagramCheck d ≡ passed) × (given n d c ≡ datagramItems d)
+    go passed k =
+        let o : Opened.Items (length (datagramItems d)) start ≡ Opened.Items n c = rw k at e in
+        let count : length (datagramItems d) ≡ n = cc in
+        let first : start ≡ c = cc in
+        let counted : countOf d ≡ Count.Items (length (datagramItems d)) = rw k refl in
+        (k, ap (given n d) (sym first) ∙ cursor-in-turn d (length (datagramItems d)) n counted (omega arith))
+    go (refused number place) k =
+        let o : Opened.Refused (refusal number place) ≡ Opened.Items n c = rw k at e in
+        let z : _≡_ {A = ℕ} 0 1 = cc in
+        absurd (omega arith)
+
+pub opened-refused :
+    (d : List ℕ) (r : Refusal) → openedOf d ≡ Opened.Refused r → datagramCheck d ≡ refused (r .number) (r .place)
+unfolding openedOf
+opened-refused d r e = go (datagramCheck d) refl
+  where
+    go : (k : Check) → datagramCheck d ≡ k → datagramCheck d ≡ refused (r .number) (r .place)
+    go passed k =
+        let o : Opened.Items (length (datagramItems d)) start ≡ Opened.Refused r = rw k at e in
+        let z : _≡_ {A = ℕ} 0 1 = cc in
+        absurd (omega arith)
+    go (refused number place) k =
+        let o : Opened.Refused (refusal number place) ≡ Opened.Refused r = rw k at e in
+        let same : refusal number place ≡ r = cc in
+        k ∙ ap (λ (s : Refusal). refused (s .number) (s .place)) same
+
+-- ---- what taking a datagram in answers, and the list afterwards, one law a return
+
+module _ (t : Table) (d : List ℕ) (origin : Origin) (at : Reading) (answers : List ℕ) where
+  -- an answer and a list are what the definitions say
+  abbrev pub Answers : Fed → List ℕ → Type 0
+  Answers r after = (r ≡ fed t d origin at answers) × (after ≡ answersAfter t d origin at answers)
+
+  pub fed-refused :
+      (r : Refusal) → openedOf d ≡ Opened.Refused r
+      → Answers (record { number = r .number; place = r .place; count = 0; table = t }) answers
+  unfolding fed answersAfter
+  fed-refused r e = rw (opened-refused d r e) (refl, refl)
+
+  module _ (n : ℕ) (c : Cursor) (calls : ℕ) (e : openedOf d ≡ Opened.Items n c) (h : calls ≡ callCount (given n d c)) where
+    checked : datagramCheck d ≡ passed
+    checked = opened-items d n c e .0
+
+    items : given n d c ≡ datagramItems d
+    items = opened-items d n c e .1
+
+    many : calls ≡ length (callsIn origin at (given n d c))
+    many = h ∙ sym (length-calls origin at (given n d c))
+
+    pub fed-short : length answers < calls → Answers (record { number = 10; place = 0; count = 0; table = t }) answers
+    unfolding fed answersAfter
+    fed-short less =
+        let short : length answers < length (callsIn origin at (datagramItems d)) = omega (arith, many, ap (λ (l : List Placed). length (callsIn origin at l)) items) in
+        rw (checked, lt-ltb _ _ short) (refl, refl)
+
+    pub fed-all :
+        (table : Table) (after : List ℕ) → calls ≤ length answers → table ≡ tableFrom t (callsIn origin at (given n d c))
+        → after ≡ calledInto t (callsIn origin at (given n d c)) answers
+        → Answers (record { number = 0; place = 0; count = calls; table = table }) after
+    unfolding fed answersAfter
+    fed-all table after room e f =
+        let length-is : calls ≡ length (callsIn origin at (datagramItems d)) = many ∙ ap (λ (l : List Placed). length (callsIn origin at l)) items in
+        let table-is : table ≡ tableFrom t (callsIn origin at (datagramItems d)) = e ∙ ap (λ (l : List Placed). tableFrom t (callsIn origin at l)) items in
+        let enough : length (callsIn origin at (datagramItems d)) ≤ length answers = omega arith in
+        rw (checked, le-ltb _ _ enough) (cc, f ∙ ap (λ (l : List Placed). calledInto t (callsIn origin at l) answers) items)

@@ -116,3 +116,35 @@ fn feed(
     }
     table
 }
+
+// Checks and counts first: after any refusal, or where the list is shorter than the calls, all is as before.
+pub fn take_datagram(t: Table, d: &[u8], origin: Origin, at: Reading, answers: &mut [u64]) -> Fed
+    ensures { λ r. ⌜ r ≡ fed t (now (d .entry)) origin at (now (answers .entry)) ⌝ }
+    ensures { λ _. ⌜ now (answers .exit) ≡ answersAfter t (now (d .entry)) origin at (now (answers .entry)) ⌝ }
+{
+    match open_datagram(d) {
+        Opened::Refused(r) => Fed {
+            number: r.number,
+            place: r.place as u64,
+            count: 0,
+            table: t,
+        },
+        Opened::Items(n, cursor) => {
+            let calls = count_calls(d, n, cursor);
+            if answers.len() < calls {
+                return Fed {
+                    number: SHORT_LIST,
+                    place: 0,
+                    count: 0,
+                    table: t,
+                };
+            }
+            Fed {
+                number: 0,
+                place: 0,
+                count: calls as u64,
+                table: feed(t, d, n, cursor, origin, at, answers),
+            }
+        }
+    }
+}

@@ -6,11 +6,6 @@ use Rattle.rtcp.specs.Cursor.{given}
 use Rattle.intake.proofs.Laws.{given-item, given-end, given-none, Feeding, feeding-start, feeding-room, feeding-item, feeding-end}
 use Rattle.intake.proofs.feed.Statement.{statement}
 use Rattle.intake.proofs.feed.Tie as tie
-use Rattle.intake.proofs.feed.Reads as reads
-use Rattle.intake.proofs.feed.Lts as lts
-use Rattle.intake.proofs.put.Reads as put-reads
-use Rattle.rtcp.proofs.next_item.Reads as next-item-reads
-use Rattle.table.proofs.Table.intake.Reads as intake-reads
 
 abbrev Inv-loop : tie.InvT-loop
 Inv-loop d n origin at answers₀ table₀ cursor₀ left₀ place₀ answers table cursor left place =
