@@ -68,21 +68,33 @@ length-calls-of origin at (Item.Report r) = refl
 length-calls-of origin at (Item.Farewell source) = refl
 length-calls-of origin at (Item.Settings s) = refl
 
-pub length-calls : (origin : Origin) (at : Reading) (items : List Placed) → length (callsIn origin at items) ≡ callCount items
+pub length-calls :
+    (origin : Origin) (at : Reading) (items : List Placed) → length (callsIn origin at items) ≡ callCount items
 unfolding callsIn callCount
 length-calls origin at [] = refl
 length-calls origin at (x ∷ xs) =
     length-append (callsOf origin at (x .item)) (callsIn origin at xs)
     ∙ omega (arith, length-calls-of origin at (x .item), length-calls origin at xs)
 
+-- ---- the calls of what a cursor gives, by what it gives next
+
+pub calls-item :
+    (origin : Origin) (at : Reading) (k : ℕ) (d : List ℕ) (c : Cursor) (x : Placed) (n : Cursor)
+    → 0 < k → nextOf d c ≡ Step.Item x n
+    → callsIn origin at (given k d c) ≡ callsOf origin at (x .item) ++ callsIn origin at (given (k - 1) d n)
+unfolding callsIn
+calls-item origin at k d c x n h e = ap (callsIn origin at) (given-item k d c x n h e)
+
+pub calls-none : (origin : Origin) (at : Reading) {items : List Placed} → items ≡ [] → callsIn origin at items ≡ []
+unfolding callsIn
+calls-none origin at e = ap (callsIn origin at) e
+
 -- ---- one item's part of the calls: their table and their numbers
 
-calls-front : (origin : Origin) (at : Reading) (x : Placed) (xs : List Placed) → callsIn origin at (x ∷ xs) ≡ callsOf origin at (x .item) ++ callsIn origin at xs
-unfolding callsIn
-calls-front origin at x xs = refl
-
 module _ (t : Table) (origin : Origin) (at : Reading) (calls : List Call) where
-  table-item : (item : Item) → tableFrom t (callsOf origin at item ++ calls) ≡ tableFrom (itemTaken t item origin at .table) calls
+  table-item :
+      (item : Item)
+      → tableFrom t (callsOf origin at item ++ calls) ≡ tableFrom (itemTaken t item origin at .table) calls
   unfolding tableFrom
   table-item (Item.Report r) = refl
   table-item (Item.Farewell source) = refl
@@ -99,7 +111,8 @@ module _ (t : Table) (origin : Origin) (at : Reading) (calls : List Call) where
 
   length-item :
       (item : Item)
-      → length (callsOf origin at item ++ calls) ≡ length (numbersOf (itemTaken t item origin at .outcome)) + length calls
+      → length (callsOf origin at item ++ calls)
+      ≡ length (numbersOf (itemTaken t item origin at .outcome)) + length calls
   length-item (Item.Report r) = omega arith
   length-item (Item.Farewell source) = omega arith
   length-item (Item.Settings s) = omega arith
@@ -124,75 +137,75 @@ sets-front l xs h =
     let all : 0 + length xs ≡ length xs = omega arith in
     sets-eq xs l 0 (omega arith) ∙ ap (λ (k : ℕ). xs ++ drop k l) all
 
--- ---- Feeding: what the loop keeps. `items₀` were to be taken into `t₀`; `items` are left, for the table `t`, and their
--- numbers go into the list from `place` on.
+-- ---- Feeding: what the loop keeps. `calls₀` were to be made of the table `t₀`; `calls` are left, for the table `t`,
+-- and their numbers go into the list from `place` on.
 
-pub record Feeding (origin : Origin) (at : Reading) (t₀ : Table) (answers₀ : List ℕ) (items₀ : List Placed) (t : Table) (answers : List ℕ) (place : ℕ) (items : List Placed) : Type 0 where
+pub record Feeding (t₀ : Table) (answers₀ : List ℕ) (calls₀ : List Call) (t : Table) (answers : List ℕ) (place : ℕ) (calls : List Call) : Type 0 where
   pub long : length answers ≡ length answers₀
-  pub room : place + length (callsIn origin at items) ≤ length answers₀
-  pub table-is : tableFrom t (callsIn origin at items) ≡ tableFrom t₀ (callsIn origin at items₀)
-  pub answers-are :
-      sets answers place (answersFrom t (callsIn origin at items)) ≡ sets answers₀ 0 (answersFrom t₀ (callsIn origin at items₀))
+  pub room : place + length calls ≤ length answers₀
+  pub table-is : tableFrom t calls ≡ tableFrom t₀ calls₀
+  pub answers-are : sets answers place (answersFrom t calls) ≡ sets answers₀ 0 (answersFrom t₀ calls₀)
 
-module _ {origin : Origin} {at : Reading} {t₀ : Table} {answers₀ : List ℕ} {items₀ : List Placed} where
-  pub feeding-start :
-      length (callsIn origin at items₀) ≤ length answers₀
-      → Feeding origin at t₀ answers₀ items₀ t₀ answers₀ 0 items₀
-  feeding-start h = record { long = refl; room = omega arith; table-is = refl; answers-are = refl }
+pub feeding-start :
+    {t₀ : Table} {answers₀ : List ℕ} {calls₀ : List Call} → length calls₀ ≤ length answers₀
+    → Feeding t₀ answers₀ calls₀ t₀ answers₀ 0 calls₀
+feeding-start h = record { long = refl; room = omega arith; table-is = refl; answers-are = refl }
 
-  module _ {t : Table} {answers : List ℕ} {place : ℕ} {items : List Placed} (f : Feeding origin at t₀ answers₀ items₀ t answers place items) where
-    -- an item's number has its place in the list
-    pub feeding-room :
-        (x : Placed) (rest : List Placed) (w : Taken) → items ≡ x ∷ rest → w ≡ taken t (Found.Item x) origin at
-        → place + length (numbersOf (w .outcome)) ≤ length answers
-    unfolding taken
-    feeding-room x rest w e g =
-        let calls : _ = ap length (ap (callsIn origin at) e ∙ calls-front origin at x rest) in
-        let numbers : _ = ap (λ (v : Taken). length (numbersOf (v .outcome))) g in
-        omega (arith, f .long, f .room, calls, numbers, length-item t origin at (callsIn origin at rest) (x .item))
+module _
+    {t₀ t : Table} {answers₀ answers : List ℕ} {calls₀ calls : List Call} {place : ℕ}
+    (f : Feeding t₀ answers₀ calls₀ t answers place calls) where
+  -- an item's number has its place in the list
+  pub feeding-room :
+      (origin : Origin) (at : Reading) (x : Placed) (rest : List Call) (w : Taken)
+      → calls ≡ callsOf origin at (x .item) ++ rest → w ≡ taken t (Found.Item x) origin at
+      → place + length (numbersOf (w .outcome)) ≤ length answers
+  unfolding taken
+  feeding-room origin at x rest w e g =
+      let many : _ = ap length e in
+      let numbers : _ = ap (λ (v : Taken). length (numbersOf (v .outcome))) g in
+      omega (arith, f .long, f .room, many, numbers, length-item t origin at rest (x .item))
 
-    pub feeding-item :
-        (x : Placed) (rest : List Placed) (w : Taken) (answers₁ : List ℕ) (place₁ : ℕ)
-        → items ≡ x ∷ rest → w ≡ taken t (Found.Item x) origin at
-        → answers₁ ≡ sets answers place (numbersOf (w .outcome)) → place₁ ≡ place + length (numbersOf (w .outcome))
-        → Feeding origin at t₀ answers₀ items₀ (w .table) answers₁ place₁ rest
-    unfolding taken
-    feeding-item x rest w answers₁ place₁ e g h k =
-        let calls : callsIn origin at items ≡ callsOf origin at (x .item) ++ callsIn origin at rest =
-        ap (callsIn origin at) e ∙ calls-front origin at x rest in
-        let many : _ = ap length calls in
-        let numbers : _ = ap (λ (v : Taken). length (numbersOf (v .outcome))) g in
-        let numbered : answersFrom t (callsIn origin at items) ≡ numbersOf (w .outcome) ++ answersFrom (w .table) (callsIn origin at rest) =
-        ap (answersFrom t) calls
-        ∙ answers-item t origin at (callsIn origin at rest) (x .item)
-        ∙ ap (λ (v : Taken). numbersOf (v .outcome) ++ answersFrom (v .table) (callsIn origin at rest)) (sym g) in
-        record {
-          long = ap length h ∙ length-sets answers place (numbersOf (w .outcome)) ∙ f .long;
-          room = omega (arith, f .room, many, numbers, k, length-item t origin at (callsIn origin at rest) (x .item));
-          table-is = ap (λ (v : Taken). tableFrom (v .table) (callsIn origin at rest)) g
-              ∙ sym (table-item t origin at (callsIn origin at rest) (x .item))
-              ∙ sym (ap (tableFrom t) calls)
-              ∙ f .table-is;
-          answers-are = ap (λ (l : List ℕ). sets l place₁ (answersFrom (w .table) (callsIn origin at rest))) h
-              ∙ ap (λ (j : ℕ). sets (sets answers place (numbersOf (w .outcome))) j (answersFrom (w .table) (callsIn origin at rest))) k
-              ∙ sym (sets-append answers (numbersOf (w .outcome)) (answersFrom (w .table) (callsIn origin at rest)) place)
-              ∙ ap (sets answers place) (sym numbered)
-              ∙ f .answers-are;
-        }
+  pub feeding-item :
+      (origin : Origin) (at : Reading) (x : Placed) (rest : List Call) (w : Taken) (answers₁ : List ℕ) (place₁ : ℕ)
+      → calls ≡ callsOf origin at (x .item) ++ rest → w ≡ taken t (Found.Item x) origin at
+      → answers₁ ≡ sets answers place (numbersOf (w .outcome)) → place₁ ≡ place + length (numbersOf (w .outcome))
+      → Feeding t₀ answers₀ calls₀ (w .table) answers₁ place₁ rest
+  unfolding taken
+  feeding-item origin at x rest w answers₁ place₁ e g h k =
+      let numbers = numbersOf (w .outcome) in
+      let later = answersFrom (w .table) rest in
+      let many : _ = ap length e in
+      let as-many : _ = ap (λ (v : Taken). length (numbersOf (v .outcome))) g in
+      let numbered : answersFrom t calls ≡ numbers ++ later =
+      ap (answersFrom t) e
+      ∙ answers-item t origin at rest (x .item)
+      ∙ ap (λ (v : Taken). numbersOf (v .outcome) ++ answersFrom (v .table) rest) (sym g) in
+      record {
+        long = ap length h ∙ length-sets answers place numbers ∙ f .long;
+        room = omega (arith, f .room, many, as-many, k, length-item t origin at rest (x .item));
+        table-is = ap (λ (v : Taken). tableFrom (v .table) rest) g
+            ∙ sym (table-item t origin at rest (x .item))
+            ∙ sym (ap (tableFrom t) e)
+            ∙ f .table-is;
+        answers-are = ap (λ (l : List ℕ). sets l place₁ later) h
+            ∙ ap (λ (j : ℕ). sets (sets answers place numbers) j later) k
+            ∙ sym (sets-append answers numbers later place)
+            ∙ ap (sets answers place) (sym numbered)
+            ∙ f .answers-are;
+      }
 
-    pub feeding-end :
-        items ≡ [] → length (callsIn origin at items₀) ≤ length answers₀
-        → (t ≡ tableFrom t₀ (callsIn origin at items₀)) × (answers ≡ calledInto t₀ (callsIn origin at items₀) answers₀)
-    unfolding callsIn tableFrom answersFrom
-    feeding-end e h =
-        let calls₀ = callsIn origin at items₀ in
-        let many : length (answersFrom t₀ calls₀) ≡ length calls₀ = length-answers t₀ calls₀ in (
-          sym (ap (λ (l : List Placed). tableFrom t (callsIn origin at l)) e) ∙ f .table-is,
-          sym (ap (λ (l : List Placed). sets answers place (answersFrom t (callsIn origin at l))) e)
-              ∙ f .answers-are
-              ∙ sets-front answers₀ (answersFrom t₀ calls₀) (omega arith)
-              ∙ ap (λ (k : ℕ). answersFrom t₀ calls₀ ++ drop k answers₀) many,
-        )
+  pub feeding-end :
+      calls ≡ [] → length calls₀ ≤ length answers₀
+      → (t ≡ tableFrom t₀ calls₀) × (answers ≡ calledInto t₀ calls₀ answers₀)
+  unfolding tableFrom answersFrom
+  feeding-end e h =
+      let many : length (answersFrom t₀ calls₀) ≡ length calls₀ = length-answers t₀ calls₀ in (
+        sym (ap (tableFrom t) e) ∙ f .table-is,
+        sym (ap (λ (l : List Call). sets answers place (answersFrom t l)) e)
+            ∙ f .answers-are
+            ∙ sets-front answers₀ (answersFrom t₀ calls₀) (omega arith)
+            ∙ ap (λ (k : ℕ). answersFrom t₀ calls₀ ++ drop k answers₀) many,
+      )
 
 -- ---- a datagram: what opening it says of its checks and its items
 
@@ -242,29 +255,38 @@ module _ (t : Table) (d : List ℕ) (origin : Origin) (at : Reading) (answers : 
   unfolding fed answersAfter
   fed-refused r e = rw (opened-refused d r e) (refl, refl)
 
-  module _ (n : ℕ) (c : Cursor) (calls : ℕ) (e : openedOf d ≡ Opened.Items n c) (h : calls ≡ callCount (given n d c)) where
+  module _
+      (n : ℕ) (c : Cursor) (count : ℕ)
+      (e : openedOf d ≡ Opened.Items n c) (h : count ≡ callCount (given n d c)) where
+    -- the calls as they were counted and made, and as the definitions have them
+    abbrev given-calls : List Call
+    given-calls = callsIn origin at (given n d c)
+
+    abbrev calls : List Call
+    calls = callsIn origin at (datagramItems d)
+
     checked : datagramCheck d ≡ passed
     checked = opened-items d n c e .0
 
-    items : given n d c ≡ datagramItems d
-    items = opened-items d n c e .1
+    same-calls : given-calls ≡ calls
+    same-calls = ap (callsIn origin at) (opened-items d n c e .1)
 
-    many : calls ≡ length (callsIn origin at (given n d c))
-    many = h ∙ sym (length-calls origin at (given n d c))
+    many : count ≡ length calls
+    many = h ∙ sym (length-calls origin at (given n d c)) ∙ ap length same-calls
 
-    pub fed-short : length answers < calls → Answers (record { number = 10; place = 0; count = 0; table = t }) answers
+    pub fed-short : length answers < count → Answers (record { number = 10; place = 0; count = 0; table = t }) answers
     unfolding fed answersAfter
     fed-short less =
-        let short : length answers < length (callsIn origin at (datagramItems d)) = omega (arith, many, ap (λ (l : List Placed). length (callsIn origin at l)) items) in
+        let short : length answers < length calls = omega (arith, many) in
         rw (checked, lt-ltb _ _ short) (refl, refl)
 
     pub fed-all :
-        (table : Table) (after : List ℕ) → calls ≤ length answers → table ≡ tableFrom t (callsIn origin at (given n d c))
-        → after ≡ calledInto t (callsIn origin at (given n d c)) answers
-        → Answers (record { number = 0; place = 0; count = calls; table = table }) after
+        (table : Table) (after : List ℕ) → count ≤ length answers → table ≡ tableFrom t given-calls
+        → after ≡ calledInto t given-calls answers
+        → Answers (record { number = 0; place = 0; count = count; table = table }) after
     unfolding fed answersAfter
-    fed-all table after room e f =
-        let length-is : calls ≡ length (callsIn origin at (datagramItems d)) = many ∙ ap (λ (l : List Placed). length (callsIn origin at l)) items in
-        let table-is : table ≡ tableFrom t (callsIn origin at (datagramItems d)) = e ∙ ap (λ (l : List Placed). tableFrom t (callsIn origin at l)) items in
-        let enough : length (callsIn origin at (datagramItems d)) ≤ length answers = omega arith in
-        rw (checked, le-ltb _ _ enough) (cc, f ∙ ap (λ (l : List Placed). calledInto t (callsIn origin at l) answers) items)
+    fed-all table after room f g =
+        let as-many : count ≡ length calls = many in
+        let table-is : table ≡ tableFrom t calls = f ∙ ap (tableFrom t) same-calls in
+        let enough : length calls ≤ length answers = omega arith in
+        rw (checked, le-ltb _ _ enough) (cc, g ∙ ap (λ (l : List Call). calledInto t l answers) same-calls)

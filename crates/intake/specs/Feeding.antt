@@ -1,5 +1,5 @@
--- A whole datagram taken into a table: it is checked first; then each report and each farewell in it is a call, in the order
--- of items, and its number goes into a lent list. A list shorter than the calls gets 10, and nothing changes.
+-- A whole datagram taken into a table: it is checked first; then each report and each farewell in it is a call, in the
+-- order of items, and its number goes into a lent list. A list shorter than the calls gets 10, and nothing changes.
 use Prim.Native.Nat.{ℕ}
 use mathlib.Core.Bool.{cond}
 use mathlib.Core.List.{List, [], _∷_, _++_}

@@ -11,12 +11,11 @@ use rtcp::open_datagram;
 use table::Outcome;
 use table::Table;
 ghost use mathlib.Core.Path.{_≡_};
-ghost use mathlib.Core.List.{_++_};
 ghost use Prim.Native.Nat.{_+_, _≤_};
-ghost use lib.ListN.{length, drop};
+ghost use lib.ListN.{length};
 ghost use lib.Seq.{sets};
 ghost use Rattle.rtcp.specs.Cursor.{given};
-ghost use Rattle.table.specs.History.{answersFrom, tableFrom};
+ghost use Rattle.table.specs.History.{tableFrom};
 ghost use Rattle.intake.specs.Feeding.{callsIn, calledInto, fed, answersAfter};
 ghost use Rattle.intake.specs.Steps.{weight, callCount, numbersOf};
 

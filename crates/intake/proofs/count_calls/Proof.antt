@@ -1,5 +1,5 @@
 -- The calls so far and those of what the cursor still gives are those of all. The measure is how often it may be asked.
-use Prim.Native.Nat.{ℕ, _+_, _≤_}
+use Prim.Native.Nat.{_+_, _≤_}
 use mathlib.Core.Path.{_≡_, sym, ap, _∙_}
 use native.Mathlib.Omega.{arith}
 use borrow.Author.Needs.{needs}
@@ -29,9 +29,8 @@ returns : tie.Need-returns Inv-loop μ-loop
 returns c =
     let d = c .before .before .before .before .before .before .args .d .now in
     let loop = c .before .before .before .before .loop in
-    let next-item = c .before .before .next-item in
-    let none : _ =
-    ap callCount (given-end (loop .left) d (loop .cursor) (sym (next-item .ensures) ∙ c .enum-told .given .1)) ∙ count-none in
+    let ended : _ = sym (c .before .before .next-item .ensures) ∙ c .enum-told .given .1 in
+    let none : _ = ap callCount (given-end (loop .left) d (loop .cursor) ended) ∙ count-none in
     omega (arith, loop .inv .1, none)
 
 enum-known-x : tie.Need-enum-known-x Inv-loop μ-loop
@@ -55,10 +54,9 @@ loop-again c =
     let loop = c .before .before .before .before .before .before .loop in
     let loop-test = c .before .before .before .before .before .loop-test in
     let next-item = c .before .before .before .before .next-item in
-    let x = c .before .before .x in
+    let gave : _ = sym (next-item .ensures) ∙ c .before .before .x .given .1 in
     let front : _ =
-    ap callCount (given-item (loop .left) d (loop .cursor) _ _ (loop-test .taken) (sym (next-item .ensures) ∙ x .given .1))
-    ∙ count-front _ _ in
+    ap callCount (given-item (loop .left) d (loop .cursor) _ _ (loop-test .taken) gave) ∙ count-front _ _ in
     (omega (arith, loop .inv .0, c .weigh .ensures .1), omega (arith, loop .inv .1, c .weigh .ensures .0, front))
 
 returns-2 : tie.Need-returns-2 Inv-loop μ-loop

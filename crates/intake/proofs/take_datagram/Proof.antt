@@ -44,13 +44,14 @@ same-length c = search needs
 
 returns-3 : tie.Need-returns-3
 returns-3 c =
-    let args = c .before .before .before .before .before .before .before .before .before .before .before .before .args in
-    let open-datagram = c .before .before .before .before .before .before .before .before .before .open-datagram in
-    let n = c .before .before .before .before .before .before .before .n in
+    let else = c .before .before .before .before in
+    let args = else .before .before .before .before .before .before .before .before .args in
+    let open-datagram = else .before .before .before .before .before .open-datagram in
+    let n = else .before .before .before .n in
     let feed = c .before .before .feed in
     fed-all (args .t) (args .d .now) (args .origin) (args .at) (args .answers .now) _ _ _
-    (sym (open-datagram .ensures) ∙ n .given .1) (c .before .before .before .before .before .count-calls .ensures) _ _
-    (c .before .before .before .before .if1 .left) (feed .ensures .0) (feed .ensures .1)
+    (sym (open-datagram .ensures) ∙ n .given .1) (else .before .count-calls .ensures) _ _
+    (else .if1 .left) (feed .ensures .0) (feed .ensures .1)
 
 pub take-datagram-spec : {M : Type 1} → statement M
 take-datagram-spec =
