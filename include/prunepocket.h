@@ -27,7 +27,8 @@ extern "C" {
  * Each reader and writer answers a refusal: its number, and the byte of the
  * datagram at which it was met. Number 0 with place 0 says that the call was not
  * refused. After any other number, the memory that was lent to the call is as
- * before. The calls of the member table answer a number alone, 0 or 12 to 20.
+ * before. The calls of the member table answer a number alone, 0 or 12 to 20;
+ * that for a whole datagram answers number and place, 0, 1 to 7 or 10.
  */
 struct prunepocket_refusal {
     uint64_t number;
@@ -166,7 +167,8 @@ struct prunepocket_refusal prunepocket_write_settings(uint32_t sender, uint32_t 
  *
  * For each item that a reader gives, the host files a report, or calls
  * prunepocket_farewell with a farewell's source, under the origin that the
- * datagram came from. What is chosen goes to the members by
+ * datagram came from; prunepocket_take_datagram does so for all items of a
+ * datagram at once. What is chosen goes to the members by
  * prunepocket_write_settings.
  *
  * No call writes to the table that it was passed: it gets a copy. Nothing is
@@ -248,6 +250,14 @@ struct prunepocket_answered {
     struct prunepocket_table table; /* The table afterwards: after a refusal equal to the one passed, after 12 none. */
 };
 
+/* What taking a whole datagram answers. */
+struct prunepocket_fed {
+    uint64_t number;                /* The refusal's number, or 0 that there is none. */
+    uint64_t place;                 /* The byte of the datagram at which the refusal was met, or 0. */
+    uint64_t count;                 /* How many numbers were put into the list, one for each call; 0 after a refusal. */
+    struct prunepocket_table table; /* The table afterwards: after a refusal equal to the one passed. */
+};
+
 /* What stands at a place. */
 struct prunepocket_seat {
     uint32_t held;                    /* 1 where a member stands there, else 0. */
@@ -299,6 +309,23 @@ struct prunepocket_answered prunepocket_farewell(struct prunepocket_table table,
  */
 struct prunepocket_answered prunepocket_sweep(struct prunepocket_table table,
                                               struct prunepocket_reading reading);
+
+/*
+ * Takes a whole datagram that came from this origin and arrived at the sender's
+ * reading: each report and each farewell in it, in the order of items, as
+ * prunepocket_report and prunepocket_farewell do. The settings are passed by.
+ * The number that each call gets, 0 or 13 to 19, goes to the front of answers,
+ * also in the order of items; numbers of the list behind them are as before.
+ * As many numbers as the datagram has items are always enough, and so are 512.
+ * Refusals: 1 to 7 of the datagram; then 10, with place 0, where answers_length
+ * is below the number of reports and farewells. Table and list are then as
+ * before, and no call was made.
+ */
+struct prunepocket_fed prunepocket_take_datagram(struct prunepocket_table table,
+                                                 const uint8_t *datagram, size_t length,
+                                                 struct prunepocket_origin origin,
+                                                 struct prunepocket_reading reading,
+                                                 uint64_t *answers, size_t answers_length);
 
 /*
  * Answers how many members there are, fresh or not.

@@ -14,6 +14,7 @@ typedef struct prunepocket_reading reading_t;
 typedef struct prunepocket_target target_t;
 typedef struct prunepocket_table table_t;
 typedef struct prunepocket_answered answered_t;
+typedef struct prunepocket_fed fed_t;
 typedef struct prunepocket_seat seat_t;
 typedef struct prunepocket_followed followed_t;
 
@@ -277,6 +278,11 @@ static void test_answer_layouts(void)
     SIZE(answered_t, 3616);
     FIELD(answered_t, number, 0, 8);
     FIELD(answered_t, table, 8, 3608);
+    SIZE(fed_t, 3632);
+    FIELD(fed_t, number, 0, 8);
+    FIELD(fed_t, place, 8, 8);
+    FIELD(fed_t, count, 16, 8);
+    FIELD(fed_t, table, 24, 3608);
     SIZE(seat_t, 64);
     FIELD(seat_t, held, 0, 4);
     FIELD(seat_t, member, 8, 56);
@@ -902,6 +908,136 @@ static void test_none_fresh(void)
     check_equal("members, fresh or not", prunepocket_members(table), 2);
 }
 
+/* ---- Whole datagrams ------------------------------------------------------------------------- */
+
+/* An empty RR, P1, the settings of P3, P2, and a BYE of 20 and 30. */
+#define SETTINGS_PLACE (8 + PRUNEPOCKET_REPORT_BYTES)
+#define BYE_PLACE (SETTINGS_PLACE + PRUNEPOCKET_SETTINGS_BYTES + PRUNEPOCKET_REPORT_BYTES)
+#define DATAGRAM_BYTES (BYE_PLACE + 12)
+#define DATAGRAM_CALLS 4
+
+static void put_report(uint8_t *packet, record_t record)
+{
+    uint64_t written = 0;
+
+    check_answer("report: written",
+                 prunepocket_write_report(record.source, record.report.payload_type,
+                                          record.report.p, record.report.group,
+                                          record.report.media_source, record.report.received,
+                                          record.report.rtp, record.report.presented, packet,
+                                          PRUNEPOCKET_REPORT_BYTES, &written),
+                 0, 0);
+}
+
+static uint8_t *lend_datagram(void)
+{
+    static const uint8_t rr[] = {0x80, 201, 0, 1, 0, 0, 0, 1};
+    static const uint8_t bye[] = {0x82, 203, 0, 2, 0, 0, 0, 20, 0, 0, 0, 30};
+    uint8_t *datagram = allocate(DATAGRAM_BYTES);
+    uint64_t written = 0;
+
+    memcpy(datagram, rr, sizeof rr);
+    put_report(datagram + sizeof rr, p1());
+    check_answer("settings: written",
+                 prunepocket_write_settings(1, p3.group, p3.media_source, p3.received, p3.rtp,
+                                            p3.presented, datagram + SETTINGS_PLACE,
+                                            PRUNEPOCKET_SETTINGS_BYTES, &written),
+                 0, 0);
+    put_report(datagram + SETTINGS_PLACE + PRUNEPOCKET_SETTINGS_BYTES, p2());
+    memcpy(datagram + BYE_PLACE, bye, sizeof bye);
+    return datagram;
+}
+
+/*
+ * The table after the first bytes of a datagram from the unit of source 10, with a list that has
+ * room for so many numbers. The numbers expected stand at its front; behind, it is as it was lent.
+ */
+static table_t take(table_t table, const uint8_t *datagram, size_t length, size_t room,
+                    struct prunepocket_refusal refusal, const uint64_t *numbers, size_t count)
+{
+    uint64_t *answers = allocate(room * sizeof *answers);
+    fed_t *fed = allocate(sizeof *fed);
+    table_t after;
+
+    for (size_t i = 0; i < room; i++)
+        answers[i] = FILL;
+    *fed = prunepocket_take_datagram(table, datagram, length, unit(10), now, answers, room);
+    check_answer("take_datagram",
+                 (struct prunepocket_refusal){number_at(fed, 0, 8), number_at(fed, 8, 8)},
+                 refusal.number, refusal.place);
+    check_equal("take_datagram: count", number_at(fed, 16, 8), count);
+    for (size_t i = 0; i < room; i++)
+        check_equal("take_datagram: answers", answers[i], i < count ? numbers[i] : FILL);
+    after = fed->table;
+    free(fed);
+    free(answers);
+    return after;
+}
+
+/* Refused, with the table and the list as before. */
+static void take_refused(table_t table, const uint8_t *datagram, size_t length, size_t room,
+                         uint64_t number, uint64_t place)
+{
+    struct prunepocket_refusal refusal = {number, place};
+    table_t after = take(table, datagram, length, room, refusal, NULL, 0);
+
+    check_true("take_datagram: the table as before", same_table(&after, &table));
+}
+
+static void test_whole_datagrams(void)
+{
+    static const struct prunepocket_refusal none;
+    static const uint64_t numbers[] = {PRUNEPOCKET_ACCEPTED, PRUNEPOCKET_ACCEPTED,
+                                       PRUNEPOCKET_ACCEPTED, PRUNEPOCKET_NO_MEMBER};
+    static const uint64_t again[] = {PRUNEPOCKET_OTHER_ORIGIN, PRUNEPOCKET_ACCEPTED,
+                                     PRUNEPOCKET_ACCEPTED, PRUNEPOCKET_OTHER_ORIGIN};
+    uint8_t *datagram = lend_datagram();
+    record_t second = p2();
+    table_t one_by_one;
+    table_t table;
+
+    CASE("two reports, the settings and two farewells");
+    table = take(opened(), datagram, DATAGRAM_BYTES, DATAGRAM_CALLS, none, numbers, 4);
+    second.origin = unit(10);
+    one_by_one = farewell(with_two(p1(), second), 20, unit(10), PRUNEPOCKET_ACCEPTED);
+    check_true("as the calls one by one", same_table(&table, &one_by_one));
+    check_member(table, 0, p1());
+    check_equal("members", prunepocket_members(table), 1);
+
+    CASE("a list that is longer than the calls");
+    take(opened(), datagram, DATAGRAM_BYTES, DATAGRAM_CALLS + 3, none, numbers, 4);
+
+    CASE("numbers that another origin holds");
+    table = with_two(twin_at(unit(11)), arrival(30));
+    take(table, datagram, DATAGRAM_BYTES, DATAGRAM_CALLS, none, again, 4);
+
+    CASE("datagrams without calls");
+    table = take(with_one(p1()), datagram, 8, 0, none, NULL, 0);
+    check_member(table, 0, p1());
+    free(datagram);
+}
+
+static void test_refused_datagrams(void)
+{
+    uint8_t *datagram = lend_datagram();
+    table_t table;
+
+    CASE("lists that are shorter than the calls");
+    table = with_two(p1(), p2());
+    for (size_t room = 0; room < DATAGRAM_CALLS; room++)
+        take_refused(table, datagram, DATAGRAM_BYTES, room, PRUNEPOCKET_SHORT_BUFFER, 0);
+
+    CASE("datagrams that are refused, whatever the list");
+    for (size_t room = 0; room <= DATAGRAM_CALLS; room++) {
+        take_refused(table, datagram, 0, room, PRUNEPOCKET_BAD_LENGTH, 0);
+        take_refused(table, datagram, DATAGRAM_BYTES - 4, room, PRUNEPOCKET_BAD_PACKET, BYE_PLACE);
+    }
+    datagram[SETTINGS_PLACE + 3] = 7;
+    take_refused(table, datagram, DATAGRAM_BYTES, DATAGRAM_CALLS, PRUNEPOCKET_SHORT_CONTENT,
+                 SETTINGS_PLACE);
+    free(datagram);
+}
+
 /* ---- Limits ---------------------------------------------------------------------------------- */
 
 /* 12, with nothing in the table that is handed back. */
@@ -1392,6 +1528,8 @@ int main(void)
     test_sweeps_by_rtp();
     test_arrival_mode();
     test_none_fresh();
+    test_whole_datagrams();
+    test_refused_datagrams();
     test_openings();
     test_reading_limits();
     test_presented_limits();

@@ -1,4 +1,6 @@
 // The member table for C, which holds it by value and passes it from call to call.
+use intake::Fed;
+use intake::take_datagram;
 use origin::Origin;
 use register::Choice;
 use register::Reading;
@@ -12,6 +14,7 @@ ghost use Rattle.register.specs.Register.{Call};
 ghost use Rattle.table.specs.Members.{countOf, seatAt};
 ghost use Rattle.table.specs.Calls.{opened, answered};
 ghost use Rattle.table.specs.Choose.{choiceOf};
+ghost use Rattle.intake.specs.Feeding.{fed, answersAfter};
 ghost use Rattle.prunepocket.specs.Following.{noTarget, followedOf};
 
 // What choosing answers: 0 and the target, or a refusal's number and a target of zeros; and the table as it was.
@@ -48,6 +51,20 @@ pub extern "C" fn prunepocket_sweep(t: Table, at: Reading) -> Answered
     ensures { λ r. ⌜ r ≡ answered t (Call.sweep at) ⌝ }
 {
     t.sweep(at)
+}
+
+#[no_mangle]
+pub extern "C" fn prunepocket_take_datagram(
+    t: Table,
+    datagram: &[u8],
+    origin: Origin,
+    at: Reading,
+    answers: &mut [u64],
+) -> Fed
+    ensures { λ r. ⌜ r ≡ fed t (now (datagram .entry)) origin at (now (answers .entry)) ⌝ }
+    ensures { λ _. ⌜ now (answers .exit) ≡ answersAfter t (now (datagram .entry)) origin at (now (answers .entry)) ⌝ }
+{
+    take_datagram(t, datagram, origin, at, answers)
 }
 
 #[no_mangle]
