@@ -2,8 +2,8 @@
 -- the table is then the register's choice, whatever the order of rows.
 use Prim.Native.Nat.{ℕ, _<_}
 use mathlib.Core.Bool.{Bool, true, false, _&&_, and-eq-true-iff}
-use mathlib.Core.List.{List, [], _∷_, List·Memᴰ, Permᴰ·refl, Permᴰ·symm}
-use mathlib.Core.Path.{_≡_, refl, ap, _∙_}
+use mathlib.Core.List.{List, [], _∷_, _++_, List·Memᴰ, Permᴰ·refl, Permᴰ·symm}
+use mathlib.Core.Path.{_≡_, refl, sym, ap, _∙_}
 use lib.Dec.{ltb}
 use lib.ListN.{length, length-replicate}
 use native.Mathlib.Omega.{arith}
@@ -140,3 +140,35 @@ pub reached :
     (o : Opening) (calls : List Call) → isRefusedOpening o ≡ false → AllInRange calls →
     Reached o calls (tableFrom (opened o .table) calls) (afterAll o [] calls)
 reached o calls taken ranges = record { taken = taken; ranges = ranges; table-is = refl; rows-are = refl }
+
+-- ---- calls after calls
+
+table-append : (t : Table) (calls more : List Call) → tableFrom t (calls ++ more) ≡ tableFrom (tableFrom t calls) more
+unfolding tableFrom
+table-append t [] more = refl
+table-append t (call ∷ calls) more = table-append (answered t call .table) calls more
+
+rows-append :
+    (o : Opening) (rows : Rows) (calls more : List Call) →
+    afterAll o rows (calls ++ more) ≡ afterAll o (afterAll o rows calls) more
+unfolding afterAll
+rows-append o rows [] more = refl
+rows-append o rows (call ∷ calls) more = rows-append o (after o rows call) calls more
+
+ranges-append : (calls more : List Call) → AllInRange calls → AllInRange more → AllInRange (calls ++ more)
+unfolding AllInRange
+ranges-append [] more first second = second
+ranges-append (call ∷ calls) more first second = (first .0, ranges-append calls more (first .1) second)
+
+-- what is reached is reached further by more calls, one by one or in a datagram
+pub reached-further :
+    (o : Opening) (calls : List Call) (t : Table) (rows : Rows) (more : List Call) → Reached o calls t rows →
+    AllInRange more → Reached o (calls ++ more) (tableFrom t more) (afterAll o rows more)
+reached-further o calls t rows more here ranges =
+    record {
+      taken = here .taken;
+      ranges = ranges-append calls more (here .ranges) ranges;
+      table-is =
+          ap (λ (u : Table). tableFrom u more) (here .table-is) ∙ sym (table-append (opened o .table) calls more);
+      rows-are = ap (λ (rs : Rows). afterAll o rs more) (here .rows-are) ∙ sym (rows-append o [] calls more);
+    }
