@@ -1,5 +1,6 @@
 # make test     every check, as .ci/run does
-# make run      shows the items of the sample datagram
+# make run      the receiving bench: the papers' cases and the twins, each with what was expected and what came
+# make show     shows the items of the sample datagram
 # make archive  target/staticlib/libprunepocket.a, for C or Rust to link
 # make install  header, archive and pkg-config file under PREFIX, by way of DESTDIR
 # make host     the example host, on the loopback
@@ -14,12 +15,16 @@ DESTDIR =
 
 ARCHIVE = target/staticlib/libprunepocket.a
 
-.PHONY: test run archive install host ctest rtest bench clean
+.PHONY: test run show archive install host ctest rtest bench clean
 
 test:
 	@tools/test
 
 run:
+	rt check receiving_bench
+	target/bin/receiving_bench
+
+show:
 	rt check show_datagram
 	target/bin/show_datagram < samples/compound.bin
 
