@@ -4,9 +4,11 @@
 # make ctest    the C test
 # make rtest    the Rust tests
 # make bench    times the archive beside a Rust decoder
+# make fuzz     coverage-guided comparison for FUZZ_SECONDS (60) a target; not part of make test
+# make fuzz-faults  shows that planted faults are found by it
 # make clean    removes all that was built
 
-.PHONY: test run archive ctest rtest bench clean
+.PHONY: test run archive ctest rtest bench fuzz fuzz-faults clean
 
 test:
 	@tools/test
@@ -26,6 +28,12 @@ rtest: archive
 
 bench: archive
 	cd bench && CARGO_TARGET_DIR="$$PWD/../target/cargo" cargo run --release --offline
+
+fuzz: archive
+	tools/fuzz
+
+fuzz-faults: archive
+	tools/fuzz-faults
 
 clean:
 	rm -rf target tests/target bench/target
