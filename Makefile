@@ -7,6 +7,8 @@
 # make ctest    the C test
 # make rtest    the Rust tests
 # make bench    times the archive beside a Rust decoder
+# make fuzz     coverage-guided comparison for FUZZ_SECONDS (60) a target; not part of make test
+# make fuzz-faults  shows that planted faults are found by it
 # make clean    removes all that was built
 
 VERSION = 0.1.0
@@ -15,7 +17,7 @@ DESTDIR =
 
 ARCHIVE = target/staticlib/libprunepocket.a
 
-.PHONY: test run show archive install host ctest rtest bench clean
+.PHONY: test run show archive install host ctest rtest bench fuzz fuzz-faults clean
 
 test:
 	@tools/test
@@ -53,6 +55,12 @@ rtest: archive
 
 bench: archive
 	cd bench && CARGO_TARGET_DIR="$$PWD/../target/cargo" cargo run --release --offline
+
+fuzz: archive
+	tools/fuzz
+
+fuzz-faults: archive
+	tools/fuzz-faults
 
 clean:
 	rm -rf target tests/target bench/target

@@ -1,0 +1,571 @@
+/*
+ * Takes every input as a script of calls, gives them to the archive's member table and to the plain register, and
+ * aborts where an answer, a member, its place or the target differs. The form of a script is in README.md.
+ */
+#include "prunepocket.h"
+#include "register.h"
+
+#include <inttypes.h>
+#include <stdbool.h>
+#include <stdio.h>
+#include <stdlib.h>
+#include <string.h>
+
+#define SECOND ((uint64_t)1 << 32)
+
+enum { MOST_CALLS = 600, NUMBERS = 21, NOBODY = -1 };
+enum call { OPEN, FILE_REPORT, SAY_FAREWELL, SWEEP, CHOOSE, CALLS };
+
+static const char *const call_names[CALLS] = {"open", "report", "farewell", "sweep", "choose"};
+
+/* What the fuzzer is told beside the branches: answers by call, rows, and how a target came about. */
+enum {
+    BY_ROWS = CALLS * NUMBERS,
+    BY_COUNTED = BY_ROWS + 65,
+    BY_TIES = BY_COUNTED + 2 * 65,
+    COUNTERS = BY_TIES + 2 * 65
+};
+__attribute__((section("__libfuzzer_extra_counters"))) static uint8_t counters[COUNTERS];
+
+/* What was met since the start. */
+static uint64_t met[CALLS][NUMBERS];
+static uint64_t looks, ties[2], targets[2], replaced, swept, most_rows;
+
+static void print_met(void)
+{
+    for (size_t call = 0; call < CALLS; call++) {
+        fprintf(stderr, "%s:", call_names[call]);
+        for (size_t number = 0; number < NUMBERS; number++)
+            if (met[call][number] > 0)
+                fprintf(stderr, " %zu %" PRIu64 ";", number, met[call][number]);
+        fputs("\n", stderr);
+    }
+    fprintf(stderr, "targets: %" PRIu64 " by presentation, %" PRIu64 " among equals; %" PRIu64 " by arrival, %" PRIu64
+                    " among equals\n",
+            targets[0], ties[0], targets[1], ties[1]);
+    fprintf(stderr, "reports replaced: %" PRIu64 "; members swept: %" PRIu64 "; at most %" PRIu64
+                    " members; looks at all members: %" PRIu64 "\n",
+            replaced, swept, most_rows, looks);
+}
+
+int LLVMFuzzerInitialize(int *argc, char ***argv)
+{
+    (void)argc;
+    (void)argv;
+    atexit(print_met);
+    return 0;
+}
+
+static void same(const char *what, uint64_t archive, uint64_t expected)
+{
+    if (archive != expected) {
+        fprintf(stderr, "differs: %s: archive %" PRIu64 ", expected %" PRIu64 "\n", what, archive, expected);
+        abort();
+    }
+}
+
+/* ---- Both sides of the comparison ---- */
+
+struct sides {
+    struct prunepocket_table table;
+    struct plain_register rows;
+    /* Who should stand at each place, which the register does not know: a source number or NOBODY. */
+    int64_t seats[PRUNEPOCKET_PLACES];
+    unsigned calls;
+};
+
+static struct prunepocket_origin to_origin(const struct from *from)
+{
+    struct prunepocket_origin origin;
+
+    memset(&origin, 0, sizeof origin);
+    memcpy(origin.address, from->bytes, 16);
+    origin.port = (uint16_t)(from->bytes[16] << 8 | from->bytes[17]);
+    return origin;
+}
+
+static struct prunepocket_record to_record(const struct row *row)
+{
+    struct prunepocket_record record;
+
+    memset(&record, 0, sizeof record);
+    record.source = row->source;
+    record.origin = to_origin(&row->origin);
+    record.report.received = row->report.received;
+    record.report.group = row->report.group;
+    record.report.media_source = row->report.media_source;
+    record.report.rtp = row->report.rtp;
+    record.report.presented = row->report.presented;
+    record.report.payload_type = row->report.payload_type;
+    record.report.p = row->report.p;
+    return record;
+}
+
+static void same_record(const struct prunepocket_record *archive, const struct prunepocket_record *expected)
+{
+    same("source of a member", archive->source, expected->source);
+    for (size_t i = 0; i < 16; i++)
+        same("address of a member", archive->origin.address[i], expected->origin.address[i]);
+    same("port of a member", archive->origin.port, expected->origin.port);
+    same("received of a member", archive->report.received, expected->report.received);
+    same("group of a member", archive->report.group, expected->report.group);
+    same("media source of a member", archive->report.media_source, expected->report.media_source);
+    same("rtp of a member", archive->report.rtp, expected->report.rtp);
+    same("presented of a member", archive->report.presented, expected->report.presented);
+    same("payload type of a member", archive->report.payload_type, expected->report.payload_type);
+    same("p of a member", archive->report.p, expected->report.p);
+}
+
+static void same_table(const struct prunepocket_table *archive, const struct prunepocket_table *before)
+{
+    same("group of the table as before", archive->group, before->group);
+    same("media source of the table as before", archive->media_source, before->media_source);
+    same("rate of the table as before", archive->rate, before->rate);
+    same("places of the table as before", archive->held, before->held);
+    /* Padding may differ, so only where the bytes do are the fields looked at. */
+    if (memcmp(archive->members, before->members, sizeof before->members) != 0)
+        for (size_t i = 0; i < PRUNEPOCKET_PLACES; i++)
+            same_record(&archive->members[i], &before->members[i]);
+}
+
+static void look(const struct sides *sides)
+{
+    static const struct prunepocket_record zeros;
+    size_t held = 0;
+
+    looks++;
+    same("members", prunepocket_members(sides->table), sides->rows.count);
+    for (size_t place = 0; place < PRUNEPOCKET_PLACES; place++) {
+        struct prunepocket_seat seat = prunepocket_member_at(sides->table, place);
+        bool expected = sides->seats[place] != NOBODY;
+
+        same("held", seat.held, expected);
+        if (expected) {
+            const struct row *row = register_row(&sides->rows, (uint32_t)sides->seats[place]);
+            struct prunepocket_record record = to_record(row);
+
+            same_record(&seat.member, &record);
+            held++;
+        } else {
+            same_record(&seat.member, &zeros);
+        }
+    }
+    same("places held", held, sides->rows.count);
+    static const size_t outside[] = {PRUNEPOCKET_PLACES, 65, 128, SIZE_MAX};
+    for (size_t i = 0; i < sizeof outside / sizeof outside[0]; i++) {
+        struct prunepocket_seat seat = prunepocket_member_at(sides->table, outside[i]);
+
+        same("held behind the last place", seat.held, 0);
+        same_record(&seat.member, &zeros);
+    }
+}
+
+/* Takes the table that a call handed back, after a look at its number. */
+static void take(struct sides *sides, enum call call, const struct prunepocket_answered *answered, unsigned number)
+{
+    met[call][number]++;
+    counters[call * NUMBERS + number] = 1;
+    same(call_names[call], answered->number, number);
+    if (number != 0)
+        same_table(&answered->table, &sides->table);
+    sides->table = answered->table;
+    sides->calls++;
+    if (sides->rows.count > most_rows)
+        most_rows = sides->rows.count;
+    counters[BY_ROWS + sides->rows.count] = 1;
+    if (number == 0)
+        same("members", prunepocket_members(sides->table), sides->rows.count);
+}
+
+static bool open_both(struct sides *sides, uint32_t group, uint32_t media_source, uint32_t rate)
+{
+    unsigned number = register_open(&sides->rows, group, media_source, rate);
+    struct prunepocket_answered answered = prunepocket_open(group, media_source, rate);
+
+    met[OPEN][number]++;
+    counters[OPEN * NUMBERS + number] = 1;
+    same("open", answered.number, number);
+    if (number != 0)
+        return false;
+    sides->table = answered.table;
+    for (size_t place = 0; place < PRUNEPOCKET_PLACES; place++)
+        sides->seats[place] = NOBODY;
+    look(sides);
+    return true;
+}
+
+static void report_both(struct sides *sides, const struct row *row, struct clocks now)
+{
+    bool known = register_row(&sides->rows, row->source) != NULL;
+    unsigned number = register_report(&sides->rows, row, now);
+    struct prunepocket_reading reading = {.ntp = now.n, .rtp = now.r};
+    struct prunepocket_answered answered = prunepocket_report(sides->table, to_record(row), reading);
+
+    take(sides, FILE_REPORT, &answered, number);
+    if (number == 0 && known)
+        replaced++;
+    if (number == 0 && !known) {
+        size_t free = 0;
+
+        while (sides->seats[free] != NOBODY)
+            free++;
+        sides->seats[free] = row->source;
+    }
+}
+
+/* Those whose row has gone leave their places. */
+static void leave(struct sides *sides)
+{
+    for (size_t place = 0; place < PRUNEPOCKET_PLACES; place++)
+        if (sides->seats[place] != NOBODY && !register_row(&sides->rows, (uint32_t)sides->seats[place]))
+            sides->seats[place] = NOBODY;
+}
+
+static void farewell_both(struct sides *sides, uint32_t source, const struct from *origin)
+{
+    unsigned number = register_farewell(&sides->rows, source, origin);
+    struct prunepocket_answered answered = prunepocket_farewell(sides->table, source, to_origin(origin));
+
+    leave(sides);
+    take(sides, SAY_FAREWELL, &answered, number);
+}
+
+static void sweep_both(struct sides *sides, struct clocks now)
+{
+    struct prunepocket_reading reading = {.ntp = now.n, .rtp = now.r};
+    struct prunepocket_answered answered = prunepocket_sweep(sides->table, reading);
+    size_t before = sides->rows.count;
+
+    register_sweep(&sides->rows, now);
+    swept += before - sides->rows.count;
+    leave(sides);
+    take(sides, SWEEP, &answered, 0);
+}
+
+static void choose_both(struct sides *sides, struct clocks now)
+{
+    struct prunepocket_reading reading = {.ntp = now.n, .rtp = now.r};
+    struct choice expected = register_choose(&sides->rows, now);
+    struct prunepocket_followed followed = prunepocket_choose(sides->table, reading);
+
+    sides->calls++;
+    met[CHOOSE][expected.number]++;
+    counters[CHOOSE * NUMBERS + expected.number] = 1;
+    if (expected.number == 0) {
+        int mode = expected.by_arrival ? 1 : 0;
+
+        targets[mode]++;
+        ties[mode] += expected.equally_late > 0;
+        counters[BY_COUNTED + 65 * mode + expected.counted] = 1;
+        counters[BY_TIES + 65 * mode + expected.equally_late] = 1;
+    }
+    same("choose", followed.number, expected.number);
+    same("source of the target", followed.target.source, expected.source);
+    same("group of the target", followed.target.group, expected.group);
+    same("media source of the target", followed.target.media_source, expected.media_source);
+    same("received of the target", followed.target.received, expected.received);
+    same("rtp of the target", followed.target.rtp, expected.rtp);
+    same("presented of the target", followed.target.presented, expected.presented);
+    same("counted", followed.target.counted, expected.counted);
+    same_table(&followed.table, &sides->table);
+    sides->table = followed.table;
+}
+
+/* ---- The script ---- */
+
+struct script {
+    const uint8_t *at;
+    size_t left;
+};
+
+/* Behind the last byte come zeros. */
+static uint8_t byte(struct script *script)
+{
+    if (script->left == 0)
+        return 0;
+    script->left--;
+    return *script->at++;
+}
+
+static uint64_t number(struct script *script, int bytes)
+{
+    uint64_t value = 0;
+
+    for (int i = 0; i < bytes; i++)
+        value = value << 8 | byte(script);
+    return value;
+}
+
+static uint32_t source(struct script *script)
+{
+    static const uint32_t sources[] = {10, 20, 0, 1, UINT32_MAX, 0x80000000, 0x7FFFFFFF, 30};
+    uint8_t said = byte(script);
+
+    return said < 8 ? sources[said] : said;
+}
+
+/* The usual origin, or one that differs from it in one byte. */
+static struct from origin(struct script *script)
+{
+    struct from from = {{0, 0, 0, 0, 0, 0, 0, 0, 0, 0, 0xFF, 0xFF, 192, 0, 2, 1, 0x13, 0x8D}};
+    uint8_t said = byte(script);
+
+    if (said >= 128)
+        from.bytes[said % 18] ^= (uint8_t)(1 << (said / 18 % 8));
+    return from;
+}
+
+/* A few units more or less than what the times are held against. */
+static uint64_t beside(struct script *script, uint64_t limit, uint8_t scale, uint64_t large)
+{
+    uint64_t more = (uint64_t)(int64_t)(int8_t)byte(script);
+
+    switch (scale & 3) {
+    case 0:
+    case 1:
+        return limit + more;
+    case 2:
+        return limit + more * 65536;
+    default:
+        return limit + more * large;
+    }
+}
+
+static uint64_t ntp_age(struct script *script)
+{
+    uint8_t said = byte(script);
+
+    switch (said & 7) {
+    case 0:
+    case 1:
+        return beside(script, 0, said >> 3, SECOND / 4);
+    case 2:
+        return beside(script, SECOND, said >> 3, SECOND / 4);
+    case 3:
+    case 4:
+        return beside(script, 30 * SECOND, said >> 3, SECOND / 4);
+    case 5:
+        return beside(script, (uint64_t)1 << 63, said >> 3, SECOND);
+    case 6:
+        return number(script, 5);
+    default:
+        return number(script, 8);
+    }
+}
+
+static uint32_t rtp_age(struct script *script, uint32_t rate)
+{
+    uint8_t said = byte(script);
+
+    switch (said & 7) {
+    case 0:
+    case 1:
+        return (uint32_t)beside(script, 0, said >> 3, rate / 4);
+    case 2:
+        return (uint32_t)beside(script, rate, said >> 3, rate / 4);
+    case 3:
+    case 4:
+        return (uint32_t)beside(script, (uint64_t)60 * rate, said >> 3, rate / 4);
+    case 5:
+        return (uint32_t)beside(script, (uint64_t)1 << 31, said >> 3, rate);
+    case 6:
+        return (uint32_t)number(script, 3);
+    default:
+        return (uint32_t)number(script, 4);
+    }
+}
+
+static uint32_t presented(struct script *script, uint64_t received)
+{
+    uint8_t said = byte(script);
+    uint32_t middle = (uint32_t)(received >> 16);
+
+    switch (said & 7) {
+    case 0:
+    case 1:
+    case 2:
+        return (uint32_t)beside(script, middle, said >> 3, 16384);
+    case 3:
+    case 4:
+        return (uint32_t)beside(script, middle + (uint64_t)30 * 65536, said >> 3, 16384);
+    case 5:
+        return (uint32_t)beside(script, 0, said >> 3, 16384);
+    case 6:
+        return middle + (uint32_t)number(script, 3);
+    default:
+        return (uint32_t)number(script, 4);
+    }
+}
+
+static struct clocks move(struct script *script, struct clocks now, uint32_t rate)
+{
+    uint8_t said = byte(script);
+
+    switch (said & 7) {
+    case 0: /* both clocks go on alike, by quarters of a second */
+    {
+        uint8_t quarters = byte(script);
+        now.n += quarters * (SECOND / 4);
+        now.r += (uint32_t)((uint64_t)quarters * rate / 4);
+        break;
+    }
+    case 1:
+        now.n += (uint64_t)(int64_t)(int8_t)byte(script);
+        break;
+    case 2:
+        now.r += (uint32_t)(int32_t)(int8_t)byte(script);
+        break;
+    case 3:
+        now.n += ntp_age(script);
+        break;
+    case 4:
+        now.r += rtp_age(script, rate);
+        break;
+    case 5: /* near a wrap */
+        now.n = beside(script, 0, said >> 3, SECOND);
+        now.r = (uint32_t)beside(script, 0, said >> 3, rate);
+        break;
+    case 6: /* near a carry out of the bits that the short time has */
+        now.n = beside(script, (uint64_t)1 << 48, said >> 3, SECOND);
+        break;
+    default:
+        now.n = number(script, 8);
+        now.r = (uint32_t)number(script, 4);
+        break;
+    }
+    return now;
+}
+
+static bool open_script(struct script *script, struct sides *sides)
+{
+    static const uint32_t groups[] = {42, 42, 42, 1, UINT32_MAX - 1, 0, UINT32_MAX, 7};
+    static const uint32_t rates[] = {90000, 48000, 44100, 1, 2, 191999, 192000, 8000, 0, 192001, UINT32_MAX};
+    uint8_t group = byte(script);
+    uint8_t rate = byte(script);
+    uint32_t rate_said = rate < 11 ? rates[rate] : (uint32_t)number(script, 3);
+
+    return open_both(sides, groups[group & 7], group & 8 ? 0 : 7, rate_said);
+}
+
+/* What a report says beside its times. */
+static void describe(struct script *script, const struct sides *sides, struct told *report)
+{
+    uint8_t said = byte(script);
+
+    report->group = sides->rows.group;
+    report->media_source = sides->rows.media_source;
+    report->payload_type = said >> 1 & 0x7F;
+    report->p = said & 1;
+    if (said >= 240) {
+        report->group ^= said & 2 ? 1 : 0;
+        report->media_source ^= said & 4 ? 0x80000000 : 0;
+        /* The header's word on any other P: it counts as 1 and is kept. */
+        if (said & 8)
+            report->p = byte(script);
+    }
+}
+
+static void call_script(struct script *script, struct sides *sides)
+{
+    struct clocks now = {1000 * SECOND, 9000000};
+    /* P1 of document 01, until the script says otherwise. */
+    struct told report = {999 * SECOND, sides->rows.group, sides->rows.media_source, 8910000, 0x03E78000, 33, 1};
+    struct row row;
+
+    while (script->left > 0 && sides->calls < MOST_CALLS) {
+        uint8_t said = byte(script);
+
+        switch (said % 11) {
+        case 0: /* a report with times of its own */
+        case 1:
+            row.source = source(script);
+            row.origin = origin(script);
+            describe(script, sides, &report);
+            report.received = now.n - ntp_age(script);
+            report.rtp = now.r - rtp_age(script, sides->rows.rate);
+            report.presented = presented(script, report.received);
+            row.report = report;
+            report_both(sides, &row, now);
+            break;
+        case 2: /* the report before, from another source */
+            row.source = source(script);
+            row.origin = origin(script);
+            row.report = report;
+            report_both(sides, &row, now);
+            break;
+        case 3: /* the report before, a little later or earlier by one of the clocks */
+        {
+            uint8_t more = byte(script);
+            row.source = source(script);
+            row.origin = origin(script);
+            report.presented += more & 1 ? (uint32_t)(more >> 3) : 0;
+            report.received -= more & 2 ? (uint64_t)(more >> 3) << 16 : 0;
+            report.rtp -= more & 4 ? (uint32_t)(more >> 3) : 0;
+            row.report = report;
+            report_both(sides, &row, now);
+            break;
+        }
+        case 4: /* many sources report alike */
+        {
+            uint32_t from = source(script);
+            uint8_t many = byte(script) % 70;
+            row.origin = origin(script);
+            for (uint32_t i = 0; i < many && sides->calls < MOST_CALLS; i++) {
+                row.source = from + i;
+                row.report = report;
+                row.report.presented += said & 16 ? i : 0;
+                report_both(sides, &row, now);
+            }
+            break;
+        }
+        case 5: {
+            uint32_t from = source(script);
+            struct from its = origin(script);
+            farewell_both(sides, from, &its);
+            break;
+        }
+        case 6:
+            sweep_both(sides, now);
+            break;
+        case 7:
+            choose_both(sides, now);
+            break;
+        case 8: /* choosing at another reading, which does not move the clocks */
+            choose_both(sides, move(script, now, sides->rows.rate));
+            break;
+        case 9: /* choosing where a member is just fresh or just not, and sometimes a sweep there */
+            if (sides->rows.count > 0) {
+                const struct told *held = &sides->rows.rows[byte(script) % sides->rows.count].report;
+                struct clocks limit = {held->received + ntp_age(script),
+                                       held->rtp + rtp_age(script, sides->rows.rate)};
+                choose_both(sides, limit);
+                if (said & 16)
+                    sweep_both(sides, limit);
+            }
+            break;
+        default:
+            now = move(script, now, sides->rows.rate);
+            break;
+        }
+        if (sides->calls % 16 == 0)
+            look(sides);
+    }
+    choose_both(sides, now);
+    look(sides);
+}
+
+int LLVMFuzzerTestOneInput(const uint8_t *data, size_t size);
+
+int LLVMFuzzerTestOneInput(const uint8_t *data, size_t size)
+{
+    static struct sides sides;
+    struct script script = {data, size};
+
+    sides.calls = 0;
+    while (script.left > 0)
+        if (open_script(&script, &sides)) {
+            call_script(&script, &sides);
+            break;
+        }
+    return 0;
+}

@@ -1,0 +1,184 @@
+#include "register.h"
+
+#include <stdbool.h>
+#include <string.h>
+
+/*
+ * A fault to be planted, which the comparison must then find:
+ * 1: among equally late members the row that was made first is chosen
+ * 2: a step of 0 is read as 0
+ * 3: the last byte of the port is not looked at
+ * 4: an RTP age of 60 seconds exactly is refused
+ */
+#ifndef REGISTER_FAULT
+#define REGISTER_FAULT 0
+#endif
+
+typedef __int128 whole;
+
+#define SECOND ((uint64_t)1 << 32)
+
+static bool far(uint64_t received, struct clocks now)
+{
+    uint64_t age = now.n - received;
+    return age > 30 * SECOND;
+}
+
+static bool aged(uint32_t rtp, struct clocks now, uint32_t rate)
+{
+    uint32_t age = now.r - rtp;
+    uint64_t most = (uint64_t)60 * rate;
+    return REGISTER_FAULT == 4 ? age >= most : age > most;
+}
+
+static bool fresh(const struct plain_register *rows, const struct told *report, struct clocks now)
+{
+    return !far(report->received, now) && !aged(report->rtp, now, rows->rate);
+}
+
+/* Expanded, before wrapping. */
+static whole presentation(const struct told *report)
+{
+    uint32_t middle = (uint32_t)(report->received >> 16);
+    uint64_t step = (uint32_t)(report->presented - middle);
+
+    if (step == 0 && REGISTER_FAULT != 2)
+        step = (uint64_t)1 << 32;
+    return (whole)(report->received - report->received % 65536) + (whole)step * 65536;
+}
+
+static whole delay(const struct told *report)
+{
+    return presentation(report) - (whole)report->received;
+}
+
+static whole lateness(const struct plain_register *rows, const struct told *report, bool by_arrival,
+                      struct clocks now)
+{
+    uint64_t ntp_age = now.n - report->received;
+    uint32_t rtp_age = now.r - report->rtp;
+    whole later = by_arrival ? 0 : delay(report);
+
+    return (whole)rows->rate * (later - (whole)ntp_age) + (whole)rtp_age * (whole)SECOND;
+}
+
+static bool equal(const struct from *one, const struct from *other)
+{
+    return memcmp(one->bytes, other->bytes, REGISTER_FAULT == 3 ? 17 : 18) == 0;
+}
+
+const struct row *register_row(const struct plain_register *rows, uint32_t source)
+{
+    for (size_t i = 0; i < rows->count; i++)
+        if (rows->rows[i].source == source)
+            return &rows->rows[i];
+    return NULL;
+}
+
+static void take_out(struct plain_register *rows, size_t at)
+{
+    rows->count--;
+    for (size_t i = at; i < rows->count; i++)
+        rows->rows[i] = rows->rows[i + 1];
+}
+
+unsigned register_open(struct plain_register *rows, uint32_t group, uint32_t media_source, uint32_t rate)
+{
+    if (group == 0 || group == UINT32_MAX || rate < 1 || rate > 192000)
+        return 12;
+    rows->group = group;
+    rows->media_source = media_source;
+    rows->rate = rate;
+    rows->count = 0;
+    return 0;
+}
+
+unsigned register_report(struct plain_register *rows, const struct row *row, struct clocks now)
+{
+    const struct told *report = &row->report;
+    const struct row *before = register_row(rows, row->source);
+
+    if (report->group != rows->group || report->media_source != rows->media_source)
+        return 13;
+    if (before && !equal(&before->origin, &row->origin))
+        return 14;
+    if (far(report->received, now))
+        return 15;
+    if (aged(report->rtp, now, rows->rate))
+        return 16;
+    if (report->p && (delay(report) > (whole)(30 * SECOND) || (uint64_t)presentation(report) == 0))
+        return 17;
+    if (!before && rows->count == MOST_ROWS)
+        return 18;
+
+    if (before)
+        rows->rows[before - rows->rows].report = *report;
+    else
+        rows->rows[rows->count++] = *row;
+    return 0;
+}
+
+unsigned register_farewell(struct plain_register *rows, uint32_t source, const struct from *origin)
+{
+    const struct row *row = register_row(rows, source);
+
+    if (!row)
+        return 19;
+    if (!equal(&row->origin, origin))
+        return 14;
+    take_out(rows, (size_t)(row - rows->rows));
+    return 0;
+}
+
+void register_sweep(struct plain_register *rows, struct clocks now)
+{
+    for (size_t i = 0; i < rows->count;) {
+        if (fresh(rows, &rows->rows[i].report, now))
+            i++;
+        else
+            take_out(rows, i);
+    }
+}
+
+struct choice register_choose(const struct plain_register *rows, struct clocks now)
+{
+    struct choice choice = {.number = 20};
+    const struct row *chosen = NULL;
+    whole latest = 0;
+    bool by_arrival = true;
+
+    for (size_t i = 0; i < rows->count; i++)
+        if (rows->rows[i].report.p && fresh(rows, &rows->rows[i].report, now))
+            by_arrival = false;
+
+    for (size_t i = 0; i < rows->count; i++) {
+        const struct row *row = &rows->rows[i];
+
+        if (!fresh(rows, &row->report, now) || (!by_arrival && !row->report.p))
+            continue;
+        choice.counted++;
+        whole late = lateness(rows, &row->report, by_arrival, now);
+        bool lower = REGISTER_FAULT != 1 && chosen && row->source < chosen->source;
+        if (!chosen || late > latest) {
+            choice.equally_late = 0;
+            chosen = row;
+            latest = late;
+        } else if (late == latest) {
+            choice.equally_late++;
+            if (lower)
+                chosen = row;
+        }
+    }
+    if (!chosen)
+        return choice;
+
+    choice.number = 0;
+    choice.source = chosen->source;
+    choice.group = chosen->report.group;
+    choice.media_source = chosen->report.media_source;
+    choice.received = chosen->report.received;
+    choice.rtp = chosen->report.rtp;
+    choice.presented = by_arrival ? 0 : (uint64_t)presentation(&chosen->report);
+    choice.by_arrival = by_arrival;
+    return choice;
+}

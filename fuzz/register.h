@@ -1,0 +1,76 @@
+/*
+ * The plain register and choosing, written from document 01 alone. It is fed the
+ * calls' arguments and nothing from the table that it is compared with.
+ */
+#ifndef FUZZ_REGISTER_H
+#define FUZZ_REGISTER_H
+
+#include <stddef.h>
+#include <stdint.h>
+
+#define MOST_ROWS 64
+
+/* Sixteen bytes of address and two of port. */
+struct from {
+    uint8_t bytes[18];
+};
+
+/* P is 1 where p is not 0. */
+struct told {
+    uint64_t received;
+    uint32_t group;
+    uint32_t media_source;
+    uint32_t rtp;
+    uint32_t presented;
+    uint8_t payload_type;
+    uint8_t p;
+};
+
+struct row {
+    uint32_t source;
+    struct from origin;
+    struct told report;
+};
+
+/* The rows stand in the order in which they were made. */
+struct plain_register {
+    uint32_t group;
+    uint32_t media_source;
+    uint32_t rate;
+    size_t count;
+    struct row rows[MOST_ROWS];
+};
+
+/* The sender's clocks: NTP time N and RTP time R. */
+struct clocks {
+    uint64_t n;
+    uint32_t r;
+};
+
+/* The refusal's number, or 0 and the target. */
+struct choice {
+    unsigned number;
+    uint32_t source;
+    uint32_t group;
+    uint32_t media_source;
+    uint64_t received;
+    uint32_t rtp;
+    uint64_t presented;
+    uint32_t counted;
+    /* Not of the answer, but of how it came: for the tally of what was met. */
+    uint32_t equally_late;
+    int by_arrival;
+};
+
+/* Each answers the refusal's number, or 0. */
+unsigned register_open(struct plain_register *rows, uint32_t group, uint32_t media_source, uint32_t rate);
+unsigned register_report(struct plain_register *rows, const struct row *row, struct clocks now);
+unsigned register_farewell(struct plain_register *rows, uint32_t source, const struct from *origin);
+void register_sweep(struct plain_register *rows, struct clocks now);
+
+struct choice register_choose(const struct plain_register *rows, struct clocks now);
+
+/* The row of a source number, or null. */
+const struct row *register_row(const struct plain_register *rows, uint32_t source);
+
+#endif
