@@ -62,7 +62,7 @@ impl RawRefusal {
 }
 
 /// The address of an object, also for an empty slice.
-fn address(datagram: &[u8]) -> *const u8 {
+pub(crate) fn address(datagram: &[u8]) -> *const u8 {
     static NOTHING: u8 = 0;
     match datagram {
         [] => &NOTHING,

@@ -1,5 +1,6 @@
 //! The archive's member table, which is passed by value from call to call.
 
+use crate::archive::address;
 use crate::members::{Call, Choice, Opening, Origin, Reading, Record, Target};
 
 /// Places in a table.
@@ -22,6 +23,17 @@ struct Answered {
     table: Table,
 }
 
+/// What taking a datagram answers, as it came.
+#[repr(C)]
+#[derive(Clone, Copy, Debug, PartialEq, Eq)]
+pub struct Fed {
+    pub number: u64,
+    pub place: u64,
+    pub count: u64,
+    /// The table afterwards.
+    pub table: Table,
+}
+
 #[repr(C)]
 struct Followed {
     number: u64,
@@ -42,6 +54,15 @@ extern "C" {
     fn prunepocket_report(table: Table, record: Record, reading: Reading) -> Answered;
     fn prunepocket_farewell(table: Table, source: u32, origin: Origin) -> Answered;
     fn prunepocket_sweep(table: Table, reading: Reading) -> Answered;
+    fn prunepocket_take_datagram(
+        table: Table,
+        datagram: *const u8,
+        length: usize,
+        origin: Origin,
+        reading: Reading,
+        answers: *mut u64,
+        answers_length: usize,
+    ) -> Fed;
     fn prunepocket_members(table: Table) -> u32;
     fn prunepocket_member_at(table: Table, place: usize) -> Seat;
     fn prunepocket_choose(table: Table, reading: Reading) -> Followed;
@@ -70,6 +91,32 @@ impl Table {
             }
         };
         (answered.number, answered.table)
+    }
+
+    /// Lends `answers`, the list that the calls' numbers go to.
+    ///
+    /// An empty list keeps its own address, so that a write through it is seen
+    /// in the memory around it.
+    pub fn take(
+        &self,
+        datagram: &[u8],
+        origin: &Origin,
+        reading: &Reading,
+        answers: &mut [u64],
+    ) -> Fed {
+        // SAFETY: as for call; pointers and lengths come from live slices, and
+        // the pointer of an empty slice is not null.
+        unsafe {
+            prunepocket_take_datagram(
+                *self,
+                address(datagram),
+                datagram.len(),
+                *origin,
+                *reading,
+                answers.as_mut_ptr(),
+                answers.len(),
+            )
+        }
     }
 
     /// How many members there are.

@@ -207,14 +207,14 @@ pub fn hex(bytes: &[u8]) -> String {
 
 /// A datagram at any alignment, with noise behind its end, so that reading
 /// past the end does not go unseen.
-struct Lent {
+pub(crate) struct Lent {
     memory: Vec<u8>,
     start: usize,
     end: usize,
 }
 
 impl Lent {
-    fn new(rng: &mut Rng, datagram: &[u8]) -> Self {
+    pub(crate) fn new(rng: &mut Rng, datagram: &[u8]) -> Self {
         let start = rng.below(8);
         let mut memory = vec![0; start];
         memory.extend(datagram);
@@ -225,7 +225,7 @@ impl Lent {
         Lent { memory, start, end }
     }
 
-    fn datagram(&self) -> &[u8] {
+    pub(crate) fn datagram(&self) -> &[u8] {
         &self.memory[self.start..self.end]
     }
 }

@@ -241,15 +241,27 @@ fn samples(rng: &mut Rng) -> [i128; 7] {
 
 /// The history with every step left out that the difference does without.
 pub fn smallest(seed: u64, fault: Option<Fault>, history: &History) -> History {
-    let differs = |history: &History| TableComparison::new(seed, fault).check(history).is_err();
-    let mut smallest = history.clone();
-    let mut share = smallest.steps.len().max(1);
+    let with = |steps: &[Step]| History {
+        opening: history.opening,
+        steps: steps.to_vec(),
+    };
+    let steps = fewest(&history.steps, |steps| {
+        let mut comparison = TableComparison::new(seed, fault);
+        comparison.check(&with(steps)).is_err()
+    });
+    with(&steps)
+}
+
+/// The list with everything left out that the difference does without.
+pub(crate) fn fewest<T: Clone>(list: &[T], differs: impl Fn(&[T]) -> bool) -> Vec<T> {
+    let mut smallest = list.to_vec();
+    let mut share = smallest.len().max(1);
     while share > 0 {
         let mut start = 0;
-        while start < smallest.steps.len() {
+        while start < smallest.len() {
             let mut fewer = smallest.clone();
-            let end = (start + share).min(fewer.steps.len());
-            fewer.steps.drain(start..end);
+            let end = (start + share).min(fewer.len());
+            fewer.drain(start..end);
             match differs(&fewer) {
                 true => smallest = fewer,
                 false => start = end,

@@ -130,6 +130,18 @@ pub struct Compound {
     pub items: Vec<PlacedItem>,
 }
 
+/// A compound that no check refuses, with few packets that give no item.
+pub fn crowded(rng: &mut Rng) -> Compound {
+    let limit = match rng.below(20) {
+        0..=13 => rng.between(12, 80) * 4,
+        14..=18 => rng.between(12, 200) * 4,
+        _ => LONGEST,
+    };
+    let mut compound = Compound::default();
+    compound.fill_with_items(rng, limit);
+    compound
+}
+
 pub fn valid(rng: &mut Rng) -> Compound {
     let limit = match rng.below(20) {
         0..=10 => rng.between(2, 60) * 4,
@@ -172,6 +184,22 @@ impl Compound {
         while limit - self.bytes.len() >= 8 {
             let sources = ((limit - self.bytes.len()) / 4 - 1).min(31);
             self.farewell_packet(rng, sources, 0);
+        }
+    }
+
+    /// Reports, each in a packet of its own, with farewells and settings among
+    /// them.
+    fn fill_with_items(&mut self, rng: &mut Rng, limit: usize) {
+        self.report_packet(rng, 8);
+        while limit - self.bytes.len() >= 40 {
+            match rng.below(10) {
+                0..=6 => self.block_packet(rng),
+                7 | 8 => {
+                    let sources = rng.between(1, 3);
+                    self.farewell_packet(rng, sources, 0);
+                }
+                _ => self.settings_packet(rng),
+            }
         }
     }
 
@@ -327,12 +355,16 @@ impl Compound {
         let start = self.open(count, 211);
         self.items
             .push(PlacedItem::new(start, Item::Settings(settings)));
-        self.put(settings.source);
-        self.put(settings.media_source);
-        self.put(settings.group);
-        self.bytes.extend(settings.received.to_be_bytes());
-        self.put(settings.rtp);
-        self.bytes.extend(settings.presented.to_be_bytes());
+        self.bytes.extend(settings_fields(&settings));
+        self.close(start);
+    }
+
+    /// An XR packet of one block of type 12.
+    fn block_packet(&mut self, rng: &mut Rng) {
+        let start = self.open(rng.below(32), 207);
+        let source = rng.field();
+        self.put(source);
+        self.idms_block(rng, source);
         self.close(start);
     }
 
@@ -394,11 +426,44 @@ impl Compound {
         let specific = role << 4 | reserved | u8::from(p);
         self.bytes.extend([12, specific, 0, 7]);
         self.put(u32::from(report.payload_type) << 25 | reserved_word);
-        self.put(report.group);
-        self.put(report.media_source);
-        self.bytes.extend(report.received.to_be_bytes());
-        self.put(report.rtp);
+        self.bytes.extend(report_fields(&report));
         self.put(field);
+    }
+
+    /// The packet that a place is in.
+    pub fn packet_at(&self, place: u64) -> usize {
+        let packets = self.packets.iter().rev();
+        let mut before = packets.filter(|&&packet| packet as u64 <= place);
+        *before.next().expect("a compound starts with a packet")
+    }
+
+    /// Writes other fields over those of an item, which stays of its kind. A
+    /// report's source is that of its packet, so all reports of a packet have
+    /// to be told the same. Reserved bits stay, and so does the presented field
+    /// where P is 0.
+    pub fn retell(&mut self, index: usize, item: Item) {
+        let place = self.items[index].place;
+        let packet = self.packet_at(place);
+        let at = place as usize;
+        match item {
+            Item::Report(report) => {
+                self.overwrite(packet + 4, &report.source.to_be_bytes());
+                let (specific, payload) = (self.bytes[at + 1], self.bytes[at + 4]);
+                self.bytes[at + 1] = specific & 0xFE | u8::from(report.p);
+                self.bytes[at + 4] = report.payload_type << 1 | payload & 1;
+                self.overwrite(at + 8, &report_fields(&report));
+                if report.p {
+                    self.overwrite(at + 28, &report.presented.to_be_bytes());
+                }
+            }
+            Item::Settings(settings) => self.overwrite(at + 4, &settings_fields(&settings)),
+            Item::Farewell { source } => self.overwrite(at, &source.to_be_bytes()),
+        }
+        self.items[index].item = item;
+    }
+
+    fn overwrite(&mut self, at: usize, bytes: &[u8]) {
+        self.bytes[at..at + bytes.len()].copy_from_slice(bytes);
     }
 
     /// A block of any type but 12.
@@ -415,14 +480,43 @@ impl Compound {
     }
 }
 
+/// A report block from the group on, without the presented field.
+fn report_fields(report: &Report) -> Vec<u8> {
+    [
+        &report.group.to_be_bytes()[..],
+        &report.media_source.to_be_bytes(),
+        &report.received.to_be_bytes(),
+        &report.rtp.to_be_bytes(),
+    ]
+    .concat()
+}
+
+/// A settings packet behind its header.
+fn settings_fields(settings: &Settings) -> Vec<u8> {
+    [
+        &settings.source.to_be_bytes()[..],
+        &settings.media_source.to_be_bytes(),
+        &settings.group.to_be_bytes(),
+        &settings.received.to_be_bytes(),
+        &settings.rtp.to_be_bytes(),
+        &settings.presented.to_be_bytes(),
+    ]
+    .concat()
+}
+
 /// A valid compound with one to three changes.
 fn mutated(rng: &mut Rng) -> Vec<u8> {
     let mut compound = valid(rng);
+    spoil(rng, &mut compound);
+    compound.bytes
+}
+
+/// One to three changes.
+pub fn spoil(rng: &mut Rng, compound: &mut Compound) {
     let changes = rng.pick(&[1, 1, 1, 2, 3]);
     for _ in 0..changes {
-        mutate(rng, &mut compound);
+        mutate(rng, compound);
     }
-    compound.bytes
 }
 
 /// Changes the bytes alone; the places stay those of the valid compound, and
@@ -707,6 +801,16 @@ mod tests {
         let mut rng = Rng::new(seed());
         for _ in 0..50_000 {
             let compound = valid(&mut rng);
+            assert!(compound.bytes.len() <= LONGEST);
+            assert_eq!(decode(&compound.bytes), Ok(compound.items));
+        }
+    }
+
+    #[test]
+    fn crowded_compounds_decode_to_the_items_written() {
+        let mut rng = Rng::new(seed());
+        for _ in 0..10_000 {
+            let compound = crowded(&mut rng);
             assert!(compound.bytes.len() <= LONGEST);
             assert_eq!(decode(&compound.bytes), Ok(compound.items));
         }

@@ -40,14 +40,21 @@ pub struct History {
 
 /// The next history of a run.
 pub fn history(rng: &mut Rng) -> History {
+    let (mut history, world) = history_with_world(rng);
+    let last = world.some_reading(rng);
+    let choices = [Step::Choose(world.clock), Step::Choose(last)];
+    history.steps.extend(choices);
+    history
+}
+
+/// A history, and the world as it leaves it.
+pub(crate) fn history_with_world(rng: &mut Rng) -> (History, World) {
     let opening = opening(rng);
     let temper = Temper::any(rng);
     let length = temper.length;
     let mut world = World::new(rng, opening, temper);
-    let mut steps: Vec<Step> = (0..length).map(|_| world.step(rng)).collect();
-    let last = world.some_reading(rng);
-    steps.extend([Step::Choose(world.clock), Step::Choose(last)]);
-    History { opening, steps }
+    let steps = (0..length).map(|_| world.step(rng)).collect();
+    (History { opening, steps }, world)
 }
 
 fn opening(rng: &mut Rng) -> Opening {
@@ -128,12 +135,12 @@ impl Temper {
 }
 
 /// The clocks and the senders of a history.
-struct World {
+pub(crate) struct World {
     opening: Opening,
     temper: Temper,
     sources: Vec<u32>,
     origins: Vec<Origin>,
-    clock: Reading,
+    pub(crate) clock: Reading,
     recent: Vec<Report>,
 }
 
@@ -157,7 +164,7 @@ impl World {
         }
     }
 
-    fn call(&mut self, rng: &mut Rng) -> Call {
+    pub(crate) fn call(&mut self, rng: &mut Rng) -> Call {
         self.advance(rng);
         let kind = rng.below(100);
         let sweeps = self.temper.sweeps;
@@ -178,7 +185,7 @@ impl World {
     }
 
     /// A source with its own origin, or at times with another.
-    fn sender(&self, rng: &mut Rng) -> (u32, Origin) {
+    pub(crate) fn sender(&self, rng: &mut Rng) -> (u32, Origin) {
         let index = rng.below(self.sources.len());
         let source = match rng.chance(1) {
             true => rng.word(),
@@ -191,6 +198,26 @@ impl World {
         (source, origin)
     }
 
+    /// A source whose own origin this is, or at times another or a new one.
+    pub(crate) fn source_at(&self, rng: &mut Rng, origin: &Origin) -> u32 {
+        let own = |index: &usize| self.origins[index % self.origins.len()] == *origin;
+        let own: Vec<usize> = (0..self.sources.len()).filter(own).collect();
+        match rng.below(20) {
+            0 => rng.word(),
+            2.. if !own.is_empty() => self.sources[rng.pick(&own)],
+            _ => self.sender(rng).0,
+        }
+    }
+
+    /// A source at this origin, as often as the temper lets members go, or any
+    /// number.
+    pub(crate) fn leaver(&self, rng: &mut Rng, origin: &Origin) -> u32 {
+        match rng.chance(4 * self.temper.farewells) {
+            true => self.source_at(rng, origin),
+            false => rng.word(),
+        }
+    }
+
     /// Another sender's origin, or the own one with a byte changed.
     fn twin_origin(&self, rng: &mut Rng, index: usize) -> Origin {
         match rng.chance(50) {
@@ -200,7 +227,7 @@ impl World {
     }
 
     /// Lets time pass, or not; at times the clocks jump.
-    fn advance(&mut self, rng: &mut Rng) {
+    pub(crate) fn advance(&mut self, rng: &mut Rng) {
         if rng.chance(self.temper.jumps) {
             self.clock = self.jump(rng);
             return;
@@ -253,7 +280,7 @@ impl World {
     }
 
     /// A reading for sweeping and choosing.
-    fn some_reading(&self, rng: &mut Rng) -> Reading {
+    pub(crate) fn some_reading(&self, rng: &mut Rng) -> Reading {
         match rng.below(20) {
             0..=9 => self.clock,
             10..=12 => self.later(upto(rng, 35 * SECOND)),
@@ -282,7 +309,7 @@ impl World {
     }
 
     /// A report at the clock's reading.
-    fn report(&mut self, rng: &mut Rng) -> Report {
+    pub(crate) fn report(&mut self, rng: &mut Rng) -> Report {
         let mut report = match !self.recent.is_empty() && rng.chance(self.temper.echoes) {
             true => self.echo(rng),
             false => self.fresh_report(rng),

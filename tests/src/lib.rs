@@ -4,14 +4,17 @@
 
 pub mod archive;
 pub mod archive_table;
+pub mod arrivals;
 pub mod cases;
 pub mod compare;
+pub mod compare_intake;
 pub mod compare_table;
 pub mod compare_writers;
 pub mod decoder;
 pub mod encoder;
 pub mod generator;
 pub mod histories;
+pub mod intake;
 pub mod items;
 pub mod members;
 pub mod register;

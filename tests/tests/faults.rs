@@ -1,19 +1,21 @@
-//! Plants each fault in the decoder, in the encoder and in the register, and
-//! asserts that the comparison finds it.
+//! Plants each fault in the decoder, in the encoder, in the register and in the
+//! intake, and asserts that the comparison finds it.
 
 use prunepocket_tests::compare::Comparison;
+use prunepocket_tests::compare_intake::{self, IntakeComparison};
 use prunepocket_tests::compare_table::{smallest, TableComparison};
 use prunepocket_tests::compare_writers::WriterComparison;
 use prunepocket_tests::encoder::Message;
 use prunepocket_tests::generator::{self, Rng};
-use prunepocket_tests::{decoder, encoder, histories, register};
+use prunepocket_tests::{arrivals, decoder, encoder, histories, intake, register};
 use std::fmt::Debug;
 use std::process::exit;
 
-/// Each fault has to be found within so many datagrams, messages or histories.
+/// Each fault has to be found within so many datagrams, messages, histories or
+/// courses.
 const BOUND: u64 = 20_000;
 
-/// Which datagram, message or history showed the fault, and how.
+/// Which datagram, message, history or course showed the fault, and how.
 type Found = Option<(u64, String)>;
 
 fn main() {
@@ -34,6 +36,9 @@ fn main() {
     }
     for fault in register::Fault::all() {
         missed |= !print_found(fault, "history", in_histories(seed, fault));
+    }
+    for fault in intake::Fault::ALL {
+        missed |= !print_found(fault, "course", in_courses(seed, fault));
     }
     if missed {
         exit(1);
@@ -95,6 +100,24 @@ fn in_histories(seed: u64, fault: register::Fault) -> Found {
             assert_eq!(sound, Ok(()));
             let history = smallest(seed, Some(fault), &history);
             let difference = TableComparison::new(seed, Some(fault)).check(&history);
+            return difference.err().map(|difference| (run, difference));
+        }
+    }
+    None
+}
+
+/// The difference is that of the smallest course with the fault in it.
+fn in_courses(seed: u64, fault: intake::Fault) -> Found {
+    let mut rng = Rng::new(seed);
+    let mut comparison = IntakeComparison::new(seed, Some(fault));
+    for run in 1..=BOUND {
+        let course = arrivals::course(&mut rng);
+        if comparison.check(&course).is_err() {
+            // As above.
+            let sound = IntakeComparison::new(seed, None).check(&course);
+            assert_eq!(sound, Ok(()));
+            let course = compare_intake::smallest(seed, Some(fault), &course);
+            let difference = IntakeComparison::new(seed, Some(fault)).check(&course);
             return difference.err().map(|difference| (run, difference));
         }
     }

@@ -1,0 +1,175 @@
+//! A seeded generator of courses: the calls of a history, then datagrams that
+//! arrive at its table. Many of them speak of the table's own group, sources and
+//! times, also where they are spoilt.
+
+use crate::decoder::decode;
+use crate::generator::{self, Compound, Rng};
+use crate::histories::{history_with_world, Step, World};
+use crate::items::{Item, Report, Settings};
+use crate::members::{Call, Opening, Origin, Reading};
+
+/// The most events behind the calls of the history.
+const MOST_EVENTS: usize = 40;
+
+/// A datagram that is taken in.
+#[derive(Clone, Debug, PartialEq, Eq)]
+pub struct Arrival {
+    pub datagram: Vec<u8>,
+    pub origin: Origin,
+    pub reading: Reading,
+    /// The length of the list that is lent.
+    pub length: usize,
+    /// A further reading, at which is chosen afterwards.
+    pub choice: Reading,
+}
+
+#[derive(Clone, Debug, PartialEq, Eq)]
+pub enum Event {
+    Call(Call),
+    Arrival(Arrival),
+}
+
+#[derive(Clone, Debug, PartialEq, Eq)]
+pub struct Course {
+    pub opening: Opening,
+    pub events: Vec<Event>,
+}
+
+/// The next course of a run.
+pub fn course(rng: &mut Rng) -> Course {
+    let (history, mut world) = history_with_world(rng);
+    let calls = history.steps.into_iter().filter_map(|step| match step {
+        Step::Call(call) => Some(Event::Call(call)),
+        Step::Choose(_) | Step::Members => None,
+    });
+    let mut events: Vec<Event> = calls.collect();
+    for _ in 0..rng.between(1, MOST_EVENTS) {
+        events.push(match rng.chance(5) {
+            true => Event::Call(world.call(rng)),
+            false => Event::Arrival(arrival(rng, &mut world)),
+        });
+    }
+    Course {
+        opening: history.opening,
+        events,
+    }
+}
+
+fn arrival(rng: &mut Rng, world: &mut World) -> Arrival {
+    world.advance(rng);
+    let (_, origin) = world.sender(rng);
+    let datagram = datagram(rng, world, &origin);
+    Arrival {
+        length: list_length(rng, &datagram),
+        datagram,
+        origin,
+        reading: world.clock,
+        choice: world.some_reading(rng),
+    }
+}
+
+/// Any datagram, or one that fits the table, spoilt or not.
+fn datagram(rng: &mut Rng, world: &mut World, origin: &Origin) -> Vec<u8> {
+    if rng.chance(20) {
+        return generator::datagram(rng);
+    }
+    let mut compound = match rng.chance(65) {
+        true => generator::crowded(rng),
+        false => generator::valid(rng),
+    };
+    fit(rng, world, origin, &mut compound);
+    if rng.chance(35) {
+        generator::spoil(rng, &mut compound);
+    }
+    compound.bytes
+}
+
+/// Makes most packets with items speak of the world's sources and times.
+fn fit(rng: &mut Rng, world: &mut World, origin: &Origin, compound: &mut Compound) {
+    let mut packet = None;
+    let mut sender = None;
+    for index in 0..compound.items.len() {
+        let item = compound.items[index];
+        let around = Some(compound.packet_at(item.place));
+        if packet != around {
+            packet = around;
+            sender = match rng.chance(92) {
+                true => Some(world.source_at(rng, origin)),
+                false => None,
+            };
+        }
+        let Some(source) = sender else {
+            continue;
+        };
+        let item = match item.item {
+            Item::Report(_) => Item::Report(report(rng, world, source)),
+            Item::Settings(_) => Item::Settings(settings(rng, world, source)),
+            Item::Farewell { .. } => Item::Farewell {
+                source: world.leaver(rng, origin),
+            },
+        };
+        compound.retell(index, item);
+    }
+}
+
+/// A report at the clock's reading, with the fields that a block has room for.
+fn report(rng: &mut Rng, world: &mut World, source: u32) -> Report {
+    let report = world.report(rng);
+    let p = report.p == 1;
+    Report {
+        source,
+        payload_type: report.payload_type >> 1,
+        p,
+        group: report.group,
+        media_source: report.media,
+        received: report.received,
+        rtp: report.rtp,
+        presented: if p { report.presented } else { 0 },
+    }
+}
+
+/// Settings that would pass for a report.
+fn settings(rng: &mut Rng, world: &mut World, source: u32) -> Settings {
+    let report = report(rng, world, source);
+    Settings {
+        source,
+        group: report.group,
+        media_source: report.media_source,
+        received: report.received,
+        rtp: report.rtp,
+        presented: u64::from(report.presented) << 16,
+    }
+}
+
+/// Exactly as long as the calls are many, longer, or at times too short.
+fn list_length(rng: &mut Rng, datagram: &[u8]) -> usize {
+    let items = decode(datagram).unwrap_or_default();
+    let calls = items
+        .iter()
+        .filter(|item| !matches!(item.item, Item::Settings(_)))
+        .count();
+    match rng.below(20) {
+        0 => calls.saturating_sub(1),
+        1 => rng.below(calls + 1),
+        2..=9 => calls,
+        _ => calls + rng.pick(&[1, 2, 9, 40, 512]),
+    }
+}
+
+#[cfg(test)]
+mod tests {
+    use super::*;
+
+    #[test]
+    fn fitted_compounds_decode_to_the_items_told() {
+        let mut rng = Rng::new(generator::seed());
+        for _ in 0..2_000 {
+            let (_, mut world) = history_with_world(&mut rng);
+            let (_, origin) = world.sender(&mut rng);
+            for mut compound in [generator::valid(&mut rng), generator::crowded(&mut rng)] {
+                fit(&mut rng, &mut world, &origin, &mut compound);
+                assert_eq!(decode(&compound.bytes), Ok(compound.items));
+            }
+        }
+    }
+}

@@ -1,0 +1,238 @@
+//! The comparison of the archive's intake of whole datagrams with the
+//! independent one: the answer, the whole list, all members and a choice.
+
+use crate::archive_table::{Seat, Table};
+use crate::arrivals::{Arrival, Course, Event};
+use crate::compare::{same, Lent, Verdict, BEFORE};
+use crate::compare_table::fewest;
+use crate::decoder::decode;
+use crate::generator::Rng;
+use crate::intake::{Answer, Fault, Intake};
+use crate::items::Item;
+use crate::members::{Call, Reading};
+
+/// Numbers on both sides of a lent list that must stay as before.
+const GUARD: usize = 16;
+
+/// Kinds of items that are calls, as columns of a tally.
+pub const KINDS: [&str; 2] = ["report", "farewell"];
+
+/// How often each thing was met.
+#[derive(Default)]
+pub struct Tally {
+    pub courses: u64,
+    /// Datagrams by their answer, a refusal's number or 0.
+    pub datagrams: [u64; 11],
+    /// Calls by kind and by their answer, a refusal's number or 0.
+    pub calls: [[u64; 20]; KINDS.len()],
+    /// Settings that were passed by.
+    pub settings: u64,
+    /// Datagrams with an accepted call, and with calls of several answers.
+    pub changing: u64,
+    pub mixed: u64,
+    /// Numbers of a list behind those of the calls.
+    pub spare: u64,
+    /// Comparisons of all members with none and with 64, and members in all.
+    pub empty_tables: u64,
+    pub full_tables: u64,
+    pub members: u64,
+    pub targets: u64,
+    pub none_fresh: u64,
+}
+
+impl Tally {
+    /// Datagrams that were taken in, refused or not.
+    pub fn taken(&self) -> u64 {
+        self.datagrams.iter().sum()
+    }
+
+    /// How often an answer was met with both kinds of calls.
+    pub fn met(&self, number: usize) -> u64 {
+        self.calls.iter().map(|answers| answers[number]).sum()
+    }
+
+    /// An accepted datagram's items, with the numbers of its calls.
+    fn count_items(&mut self, datagram: &[u8], numbers: &[u64]) {
+        let mut rest = numbers.iter();
+        for item in decode(datagram).unwrap_or_default() {
+            let kind = match item.item {
+                Item::Report(_) => 0,
+                Item::Farewell { .. } => 1,
+                Item::Settings(_) => {
+                    self.settings += 1;
+                    continue;
+                }
+            };
+            if let Some(&number) = rest.next() {
+                self.calls[kind][number as usize] += 1;
+            }
+        }
+        self.changing += u64::from(numbers.contains(&0));
+        self.mixed += u64::from(numbers.windows(2).any(|pair| pair[0] != pair[1]));
+    }
+}
+
+/// The two sides, opened alike.
+struct Sides {
+    table: Table,
+    intake: Intake,
+}
+
+pub struct IntakeComparison {
+    fault: Option<Fault>,
+    rng: Rng,
+    pub tally: Tally,
+}
+
+impl IntakeComparison {
+    /// With a planted fault, the independent intake is the one that errs.
+    pub fn new(seed: u64, fault: Option<Fault>) -> Self {
+        IntakeComparison {
+            fault,
+            rng: Rng::new(!seed),
+            tally: Tally::default(),
+        }
+    }
+
+    /// A whole course, from its opening on. One that is refused has no table to
+    /// take a datagram.
+    pub fn check(&mut self, course: &Course) -> Verdict {
+        self.tally.courses += 1;
+        let table = Table::open(&course.opening);
+        let intake = Intake::open(&course.opening, self.fault);
+        let (table, intake) = match (table, intake) {
+            (Ok(table), Ok(intake)) => (table, intake),
+            (table, intake) => {
+                return same(format_args!("opening"), &table.err(), &intake.err());
+            }
+        };
+        let mut sides = Sides { table, intake };
+        for (place, event) in course.events.iter().enumerate() {
+            let verdict = match event {
+                Event::Call(call) => check_call(&mut sides, call),
+                Event::Arrival(arrival) => self.check_arrival(&mut sides, arrival),
+            };
+            verdict.map_err(|difference| format!("event {place}, {difference}"))?;
+        }
+        Ok(())
+    }
+
+    fn check_arrival(&mut self, sides: &mut Sides, arrival: &Arrival) -> Verdict {
+        let Answer { number, count, .. } = self.check_take(sides, arrival)?;
+        self.tally.datagrams[number as usize] += 1;
+        if number == 0 {
+            self.tally.spare += arrival.length as u64 - count;
+        }
+        self.check_members(sides)?;
+        self.check_choice(sides, &arrival.reading)?;
+        self.check_choice(sides, &arrival.choice)
+    }
+
+    /// The answer is the independent one, and so is all memory around the list.
+    /// After a refusal the table has all fields as before.
+    fn check_take(&mut self, sides: &mut Sides, arrival: &Arrival) -> Result<Answer, String> {
+        let lent = Lent::new(&mut self.rng, &arrival.datagram);
+        let mut memory = vec![BEFORE; GUARD + arrival.length + GUARD];
+        let mut expected_memory = memory.clone();
+        let list = GUARD..GUARD + arrival.length;
+        let expected = sides
+            .intake
+            .take(arrival, &mut expected_memory[list.clone()]);
+        let fed = sides.table.take(
+            lent.datagram(),
+            &arrival.origin,
+            &arrival.reading,
+            &mut memory[list.clone()],
+        );
+        let answer = Answer {
+            number: fed.number,
+            place: fed.place,
+            count: fed.count,
+        };
+        let call = format_args!("a list of {}", arrival.length);
+        same(call, &answer, &expected)?;
+        check_memory(&memory, &expected_memory)?;
+        if answer.number != 0 && fed.table != sides.table {
+            return Err(String::from("the table after a refusal is not as before"));
+        }
+        sides.table = fed.table;
+        if answer.number == 0 {
+            let numbers = &memory[list][..answer.count as usize];
+            self.tally.count_items(&arrival.datagram, numbers);
+        }
+        Ok(answer)
+    }
+
+    /// The same member at each place, or none.
+    fn check_members(&mut self, sides: &Sides) -> Verdict {
+        let members = sides.intake.members();
+        for (place, member) in members.iter().enumerate() {
+            let expected = match member {
+                None => Seat::default(),
+                Some(member) => Seat {
+                    held: 1,
+                    member: *member,
+                },
+            };
+            let seat = sides.table.seat(place);
+            same(format_args!("place {place}"), &seat, &expected)?;
+        }
+        let count = members.iter().flatten().count();
+        let answer = sides.table.members();
+        same(format_args!("how many members"), &answer, &(count as u32))?;
+        self.tally.empty_tables += u64::from(count == 0);
+        self.tally.full_tables += u64::from(count == members.len());
+        self.tally.members += count as u64;
+        Ok(())
+    }
+
+    fn check_choice(&mut self, sides: &Sides, reading: &Reading) -> Verdict {
+        let expected = sides.intake.choose(reading);
+        let (choice, _, after) = sides.table.choose(reading);
+        same(format_args!("the choice"), &choice, &expected)?;
+        if after != sides.table {
+            return Err(String::from("the table after choosing is not as before"));
+        }
+        match choice {
+            Ok(_) => self.tally.targets += 1,
+            Err(_) => self.tally.none_fresh += 1,
+        }
+        Ok(())
+    }
+}
+
+/// A single call between the datagrams.
+fn check_call(sides: &mut Sides, call: &Call) -> Verdict {
+    let expected = sides.intake.call(call);
+    let (number, after) = sides.table.call(call);
+    same(format_args!("the answer"), &number, &expected)?;
+    sides.table = after;
+    Ok(())
+}
+
+/// The list and what stands around it, after a call.
+fn check_memory(memory: &[u64], expected: &[u64]) -> Verdict {
+    let pairs = memory.iter().zip(expected);
+    for (at, (number, expected)) in pairs.enumerate() {
+        match at.checked_sub(GUARD) {
+            Some(index) if at < memory.len() - GUARD => {
+                same(format_args!("number {index} of the list"), number, expected)?;
+            }
+            _ => same(format_args!("beside the list"), number, expected)?,
+        }
+    }
+    Ok(())
+}
+
+/// The course with every event left out that the difference does without.
+pub fn smallest(seed: u64, fault: Option<Fault>, course: &Course) -> Course {
+    let with = |events: &[Event]| Course {
+        opening: course.opening,
+        events: events.to_vec(),
+    };
+    let events = fewest(&course.events, |events| {
+        let mut comparison = IntakeComparison::new(seed, fault);
+        comparison.check(&with(events)).is_err()
+    });
+    with(&events)
+}

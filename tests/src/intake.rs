@@ -1,0 +1,305 @@
+//! The independent intake of a datagram: the decoder's items, and for each
+//! report and each farewell in order a call of the register. Beside the rows it
+//! keeps the places of their members.
+//!
+//! As in the decoder, a `Fault` plants one error that the comparison has to
+//! find.
+
+use crate::arrivals::Arrival;
+use crate::decoder::decode;
+use crate::items::{Item, PlacedItem, Refusal};
+use crate::members::{Call, Choice, Opening, Reading, Record, Report};
+use crate::register::Register;
+
+/// Places in a table.
+const PLACES: usize = 64;
+
+#[derive(Clone, Copy, Debug, PartialEq, Eq)]
+pub enum Fault {
+    /// Settings are counted as calls.
+    SettingsCounted,
+    /// Settings are taken as reports.
+    SettingsFiled,
+    /// Farewells before reports.
+    FarewellsFirst,
+    /// The last item first.
+    ItemsReversed,
+    /// No call behind one that is refused.
+    StoppedAtRefusal,
+    /// The numbers of accepted calls alone go to the list.
+    AcceptedListed,
+    /// The list has to be as long as the items, settings included.
+    ItemsNeeded,
+    /// A list one too short is taken.
+    ShortListTaken,
+    /// As many calls as the list is long are made before 10.
+    ShortListFilled,
+    /// After 10, the count of the calls.
+    CountBesideTen,
+    /// The first items of a refused datagram are taken.
+    RefusedTaken,
+    /// 10 before the datagram's own refusal.
+    TenFirst,
+    /// A refusal is at place 0.
+    PlaceZero,
+    /// The numbers of the list behind those of the calls become 0.
+    RestCleared,
+    /// A new member takes the highest free place.
+    HighestPlace,
+}
+
+impl Fault {
+    pub const ALL: [Fault; 15] = [
+        Fault::SettingsCounted,
+        Fault::SettingsFiled,
+        Fault::FarewellsFirst,
+        Fault::ItemsReversed,
+        Fault::StoppedAtRefusal,
+        Fault::AcceptedListed,
+        Fault::ItemsNeeded,
+        Fault::ShortListTaken,
+        Fault::ShortListFilled,
+        Fault::CountBesideTen,
+        Fault::RefusedTaken,
+        Fault::TenFirst,
+        Fault::PlaceZero,
+        Fault::RestCleared,
+        Fault::HighestPlace,
+    ];
+}
+
+/// What taking a datagram answers, but the table.
+#[derive(Clone, Copy, Debug, PartialEq, Eq)]
+pub struct Answer {
+    pub number: u64,
+    pub place: u64,
+    pub count: u64,
+}
+
+impl Answer {
+    fn accepted(count: usize) -> Self {
+        let count = count as u64;
+        Answer {
+            number: 0,
+            place: 0,
+            count,
+        }
+    }
+
+    fn refused(refusal: Refusal) -> Self {
+        Answer {
+            number: refusal.number,
+            place: refusal.place,
+            count: 0,
+        }
+    }
+}
+
+/// A register, with the source that stands at each place of a table.
+pub struct Intake {
+    register: Register,
+    places: [Option<u32>; PLACES],
+    fault: Option<Fault>,
+}
+
+impl Intake {
+    /// Without rows, or 12.
+    pub fn open(opening: &Opening, fault: Option<Fault>) -> Result<Intake, u64> {
+        let register = Register::open(opening, None)?;
+        Ok(Intake {
+            register,
+            places: [None; PLACES],
+            fault,
+        })
+    }
+
+    fn planted(&self, fault: Fault) -> bool {
+        self.fault == Some(fault)
+    }
+
+    pub fn choose(&self, reading: &Reading) -> Choice {
+        self.register.choose(reading)
+    }
+
+    /// The member at each place.
+    pub fn members(&self) -> [Option<Record>; PLACES] {
+        let row = |source: u32| self.register.rows().iter().find(|row| row.source == source);
+        self.places.map(|source| source.and_then(row).copied())
+    }
+
+    /// A single call: the refusal's number, or 0 where there is none.
+    pub fn call(&mut self, call: &Call) -> u64 {
+        let number = self.register.call(call);
+        match *call {
+            _ if number != 0 => {}
+            Call::Report(told, _) => self.seat(told.source),
+            Call::Farewell(source, _) => self.keep_places(|held| held != source),
+            Call::Sweep(_) => {
+                let rows: Vec<u32> = self.register.rows().iter().map(|row| row.source).collect();
+                self.keep_places(|held| rows.contains(&held));
+            }
+        }
+        number
+    }
+
+    /// A new member takes the lowest free place.
+    fn seat(&mut self, source: u32) {
+        if self.places.contains(&Some(source)) {
+            return;
+        }
+        let mut free = self.places.iter_mut().filter(|place| place.is_none());
+        let place = match self.fault {
+            Some(Fault::HighestPlace) => free.next_back(),
+            _ => free.next(),
+        };
+        *place.expect("there are at most as many rows as places") = Some(source);
+    }
+
+    fn keep_places(&mut self, keeps: impl Fn(u32) -> bool) {
+        for place in &mut self.places {
+            *place = place.filter(|&source| keeps(source));
+        }
+    }
+
+    /// Takes a whole datagram, with this list for the calls' numbers.
+    pub fn take(&mut self, arrival: &Arrival, list: &mut [u64]) -> Answer {
+        match decode(&arrival.datagram) {
+            Ok(items) => self.take_items(arrival, &items, list),
+            Err(refusal) => self.refuse(arrival, refusal, list.len()),
+        }
+    }
+
+    /// The list is as before, and no call is made.
+    fn refuse(&mut self, arrival: &Arrival, refusal: Refusal, length: usize) -> Answer {
+        match self.fault {
+            Some(Fault::RefusedTaken) => {
+                let items = first_items(&arrival.datagram);
+                for call in self.calls(arrival, &items).into_iter().flatten() {
+                    self.call(&call);
+                }
+            }
+            Some(Fault::TenFirst) => {
+                let items = first_items(&arrival.datagram);
+                if self.calls(arrival, &items).len() > length {
+                    return Answer::refused(Refusal::new(10, 0));
+                }
+            }
+            Some(Fault::PlaceZero) => {
+                return Answer::refused(Refusal {
+                    place: 0,
+                    ..refusal
+                });
+            }
+            _ => {}
+        }
+        Answer::refused(refusal)
+    }
+
+    fn take_items(&mut self, arrival: &Arrival, items: &[PlacedItem], list: &mut [u64]) -> Answer {
+        let calls = self.calls(arrival, items);
+        let needed = match self.fault {
+            Some(Fault::ItemsNeeded) => items.len(),
+            Some(Fault::ShortListTaken) => calls.len().saturating_sub(1),
+            _ => calls.len(),
+        };
+        if list.len() < needed {
+            if self.planted(Fault::ShortListFilled) {
+                self.make(&calls, list);
+            }
+            let mut answer = Answer::refused(Refusal::new(10, 0));
+            if self.planted(Fault::CountBesideTen) {
+                answer.count = calls.len() as u64;
+            }
+            return answer;
+        }
+        Answer::accepted(self.make(&calls, list))
+    }
+
+    /// Makes the calls in order: their numbers go to the front of the list.
+    /// Answers how many there are.
+    fn make(&mut self, calls: &[Option<Call>], list: &mut [u64]) -> usize {
+        let mut numbers = Vec::new();
+        for call in calls {
+            let number = call.map_or(0, |call| self.call(&call));
+            if number == 0 || !self.planted(Fault::AcceptedListed) {
+                numbers.push(number);
+            }
+            if number != 0 && self.planted(Fault::StoppedAtRefusal) {
+                break;
+            }
+        }
+        if self.planted(Fault::RestCleared) {
+            list.fill(0);
+        }
+        for (place, number) in list.iter_mut().zip(&numbers) {
+            *place = *number;
+        }
+        numbers.len()
+    }
+
+    /// A call for each report and each farewell; settings are passed by. A call
+    /// that is none stands for settings that are counted.
+    fn calls(&self, arrival: &Arrival, items: &[PlacedItem]) -> Vec<Option<Call>> {
+        let mut items = items.to_vec();
+        match self.fault {
+            Some(Fault::FarewellsFirst) => {
+                items.sort_by_key(|item| !matches!(item.item, Item::Farewell { .. }));
+            }
+            Some(Fault::ItemsReversed) => items.reverse(),
+            _ => {}
+        }
+        let calls = items.iter().map(|item| self.call_of(arrival, &item.item));
+        match self.fault {
+            Some(Fault::SettingsCounted) => calls.collect(),
+            _ => calls.filter(Option::is_some).collect(),
+        }
+    }
+
+    fn call_of(&self, arrival: &Arrival, item: &Item) -> Option<Call> {
+        let file = |source: u32, report: Report| {
+            let record = Record {
+                source,
+                origin: arrival.origin,
+                report,
+            };
+            Some(Call::Report(record, arrival.reading))
+        };
+        match item {
+            Item::Report(report) => file(
+                report.source,
+                Report {
+                    received: report.received,
+                    group: report.group,
+                    media: report.media_source,
+                    rtp: report.rtp,
+                    presented: report.presented,
+                    payload_type: report.payload_type,
+                    p: u8::from(report.p),
+                },
+            ),
+            Item::Settings(settings) if self.planted(Fault::SettingsFiled) => file(
+                settings.source,
+                Report {
+                    received: settings.received,
+                    group: settings.group,
+                    media: settings.media_source,
+                    rtp: settings.rtp,
+                    presented: (settings.presented >> 16) as u32,
+                    payload_type: 0,
+                    p: u8::from(settings.presented != 0),
+                },
+            ),
+            Item::Settings(_) => None,
+            Item::Farewell { source } => Some(Call::Farewell(*source, arrival.origin)),
+        }
+    }
+}
+
+/// The items of a refused datagram's longest front that is not refused.
+fn first_items(datagram: &[u8]) -> Vec<PlacedItem> {
+    let fronts = (0..datagram.len()).rev();
+    fronts
+        .filter_map(|end| decode(&datagram[..end]).ok())
+        .next()
+        .unwrap_or_default()
+}
