@@ -4,9 +4,9 @@
 # make archive  target/staticlib/libprunepocket.a, for C or Rust to link
 # make install  header, archive and pkg-config file under PREFIX, by way of DESTDIR
 # make host     the example host, on the loopback
-# make ctest    the C test
+# make ctest    the C tests
 # make rtest    the Rust tests
-# make bench    times the archive beside a Rust decoder
+# make bench    times the archive beside a Rust decoder, encoder and table
 # make fuzz     coverage-guided comparison for FUZZ_SECONDS (60) a target; not part of make test
 # make fuzz-faults  shows that planted faults are found by it
 # make clean    removes all that was built

@@ -52,9 +52,6 @@ pub enum Found {
     Refused(Refusal),
 }
 
-// How many numbers a row has.
-pub const ROW: usize = 10;
-
 // What a field's number finds.
 pub enum Field {
     Value(u64),

@@ -1,5 +1,4 @@
 -- A choice as C holds it: numbers alone.
-use Prim.Native.Nat.{ℕ}
 use Rattle.register.specs.declared.Choice.{Choice}
 use Rattle.register.specs.declared.Target.{Target}
 use Rattle.table.specs.declared.Table.{Table}

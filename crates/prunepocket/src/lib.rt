@@ -28,6 +28,7 @@ pub struct Answer {
     pub place: u64,
 }
 
+// No refusal.
 fn accept() -> Answer
     ensures { λ r. ⌜ r ≡ accepted ⌝ }
 {
@@ -37,6 +38,7 @@ fn accept() -> Answer
     }
 }
 
+// A refusal as two numbers.
 fn refuse(r: Refusal) -> Answer
     ensures { λ a. ⌜ a ≡ refusalAnswer r ⌝ }
 {
@@ -104,6 +106,7 @@ pub extern "C" fn prunepocket_read_items(
     }
 }
 
+// What a writer answered, whose place is always 0.
 fn answer_write(w: Written) -> Answer
     ensures { λ a. ⌜ a ≡ writeAnswer w ⌝ }
 {
@@ -113,6 +116,7 @@ fn answer_write(w: Written) -> Answer
     }
 }
 
+// How many bytes were written, or what stood there before.
 fn bytes_written(w: Written, before: u64) -> u64
     ensures { λ n. ⌜ n ≡ writeAfter w before ⌝ }
 {
@@ -139,6 +143,7 @@ pub extern "C" fn prunepocket_write_report(
 ) -> Answer
     ensures { λ a. ⌜ Wrote (reportIsOut p (reportOf sender «payload_type» p group media received rtp presented)) (reportWords (reportOf sender «payload_type» p group media received rtp presented)) (now (bytes .entry)) (now (count .entry)) a (now (bytes .exit)) (now (count .exit)) ⌝ }
 {
+    // Checked here, before the number is cut to 8 bits and P to one.
     if 127 < payload_type {
         return Answer {
             number: OUT_OF_RANGE,

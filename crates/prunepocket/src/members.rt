@@ -25,6 +25,7 @@ pub struct Followed {
     pub table: Table,
 }
 
+// A table for a group, a media source and a clock rate, or 12.
 #[no_mangle]
 pub extern "C" fn prunepocket_open(group: u32, media: u32, rate: u32) -> Answered
     ensures { λ r. ⌜ r ≡ opened (record { group = group; media = media; rate = rate }) ⌝ }
@@ -32,6 +33,7 @@ pub extern "C" fn prunepocket_open(group: u32, media: u32, rate: u32) -> Answere
     Table::open(group, media, rate)
 }
 
+// A report under its origin, at the sender's reading.
 #[no_mangle]
 pub extern "C" fn prunepocket_report(t: Table, x: Record, at: Reading) -> Answered
     ensures { λ r. ⌜ r ≡ answered t (Call.report x at) ⌝ }
@@ -39,6 +41,7 @@ pub extern "C" fn prunepocket_report(t: Table, x: Record, at: Reading) -> Answer
     t.report(x, at)
 }
 
+// A farewell, which is a BYE source, under its origin.
 #[no_mangle]
 pub extern "C" fn prunepocket_farewell(t: Table, source: u32, origin: Origin) -> Answered
     ensures { λ r. ⌜ r ≡ answered t (Call.farewell source origin) ⌝ }
@@ -46,6 +49,7 @@ pub extern "C" fn prunepocket_farewell(t: Table, source: u32, origin: Origin) ->
     t.farewell(source, origin)
 }
 
+// Removes every member that is not fresh at the reading.
 #[no_mangle]
 pub extern "C" fn prunepocket_sweep(t: Table, at: Reading) -> Answered
     ensures { λ r. ⌜ r ≡ answered t (Call.sweep at) ⌝ }
@@ -53,6 +57,7 @@ pub extern "C" fn prunepocket_sweep(t: Table, at: Reading) -> Answered
     t.sweep(at)
 }
 
+// Every report and farewell of a datagram, in order, each with its number in the list.
 #[no_mangle]
 pub extern "C" fn prunepocket_take_datagram(
     t: Table,
@@ -67,6 +72,7 @@ pub extern "C" fn prunepocket_take_datagram(
     take_datagram(t, datagram, origin, at, answers)
 }
 
+// How many members there are.
 #[no_mangle]
 pub extern "C" fn prunepocket_members(t: Table) -> u32
     ensures { λ r. ⌜ r ≡ countOf t ⌝ }
@@ -74,6 +80,7 @@ pub extern "C" fn prunepocket_members(t: Table) -> u32
     t.count()
 }
 
+// The member at a place, if there is one.
 #[no_mangle]
 pub extern "C" fn prunepocket_member_at(t: Table, place: usize) -> Seat
     ensures { λ r. ⌜ r ≡ seatAt t place ⌝ }
@@ -96,6 +103,7 @@ fn no_target() -> Target
     }
 }
 
+// A choice as numbers alone: an enum does not pass C's boundary.
 fn followed_by(choice: Choice, t: Table) -> Followed
     ensures { λ r. ⌜ r ≡ followedOf choice t ⌝ }
 {
@@ -113,6 +121,7 @@ fn followed_by(choice: Choice, t: Table) -> Followed
     }
 }
 
+// The target at the reading, or 20.
 #[no_mangle]
 pub extern "C" fn prunepocket_choose(t: Table, at: Reading) -> Followed
     ensures { λ r. ⌜ r ≡ followedOf (choiceOf t at) t ⌝ }

@@ -86,10 +86,6 @@ leZ-subℕ a b c d = go (ltb a b) refl (ltb c d) refl
         let q' : _ = ltb-false c d q in
         rw (p, q) (leb-same (a - b) (c - d) (a + d) (c + b) (omega arith) (omega arith))
 
-pub ltZ-subℕ : (a b c d : ℕ) → ltZ (subℕ a b) (subℕ c d) ≡ ltb (a + d) (c + b)
-ltZ-subℕ a b c d =
-    ltZ-not-leZ (subℕ a b) (subℕ c d) ∙ ap not (leZ-subℕ c d a b) ∙ sym (ltb-not-leb (a + d) (c + b))
-
 subℕ-same : (a b c d : ℕ) → a + d ≡ c + b → subℕ a b ≡ subℕ c d
 subℕ-same =
     subℕ-cases (λ (a b : ℕ). (c d : ℕ) → a + d ≡ c + b → subℕ a b ≡ subℕ c d)

@@ -1,6 +1,6 @@
 -- Laws of the lists kept by a test and of the test that some element passes: how many they hold, and that a permutation
 -- keeps them. By induction on the list or on the permutation, with the test's value as a case.
-use Prim.Native.Nat.{ℕ, zero, suc, _≤_}
+use Prim.Native.Nat.{suc, _≤_}
 use mathlib.Core.Bool.{Bool, true, false, not, cond, _&&_, _||_, false≢true}
 use mathlib.Core.List.{List, [], _∷_, List·Memᴰ, List·Memᴰ·head, List·Memᴰ·tail, List·Permᴰ, List·Permᴰ·nil, List·Permᴰ·cons, List·Permᴰ·swap, List·Permᴰ·trans, Permᴰ·refl}
 use mathlib.Core.Path.{_≡_, refl, sym, ap, _∙_}
@@ -131,13 +131,6 @@ none-kept {A} test (x ∷ xs) e = go (test x) refl (none-kept test xs)
         (t : Bool) → test x ≡ t → (length (keep test xs) ≡ 0 → some test xs ≡ false) → (t || some test xs) ≡ false
     go true q rest = absurd (omega (arith, e, ap length (keep-yes test x xs q)))
     go false q rest = rest (sym (ap length (keep-no test x xs q)) ∙ e)
-
-pub some-kept : {A : Type 0} (test : A → Bool) (xs : List A) → some test xs ≡ true → 1 ≤ length (keep test xs)
-some-kept test xs e = go (length (keep test xs)) refl
-  where
-    go : (n : ℕ) → length (keep test xs) ≡ n → 1 ≤ n
-    go zero q = clash (sym (none-kept test xs q) ∙ e)
-    go (suc n) q = omega arith
 
 pub length-keep-≤ : {A : Type 0} (test : A → Bool) (xs : List A) → length (keep test xs) ≤ length xs
 unfolding keep

@@ -85,7 +85,8 @@ packet-numbered d p = andThen-numbered (headCheck d p) _ (head-numbered d p) (go
     go false t =
         rw (byType-unless-xr (packetType d p) passed (blocksCheck d (p + content d p) (p + 8)) (eqb-false (packetType d p) 207 t)) passed-numbered
 
-datagram-numbered : (d : List ℕ) → Numbered (datagramCheck d)
+-- A datagram is refused with a number of 1 to 7.
+pub datagram-numbered : (d : List ℕ) → Numbered (datagramCheck d)
 unfolding datagramCheck
 datagram-numbered d =
     refuseIf-numbered (lengthIsBad (length d)) 1 0 _ (omega arith)

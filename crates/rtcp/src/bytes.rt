@@ -19,6 +19,7 @@ pub(crate) fn read16(d: &[u8], at: usize) -> usize
     pair(d[at], d[at + 1])
 }
 
+// Two bytes as a number.
 fn pair(a: u8, b: u8) -> usize
     ensures { λ r. ⌜ (r ≡ joined 0 0 a b) × (r < 2 ^ 16) ⌝ }
 {
@@ -41,6 +42,7 @@ pub(crate) fn read64(d: &[u8], at: usize) -> u64
     halves(read32(d, at), read32(d, at + 4))
 }
 
+// Two halves as a number.
 fn halves(high: u32, low: u32) -> u64
     ensures { λ r. ⌜ r ≡ high * 2 ^ 32 + low ⌝ }
 {

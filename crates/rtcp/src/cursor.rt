@@ -221,6 +221,7 @@ pub(crate) fn nth_item(d: &[u8], index: usize) -> Placed
     loop {
         match next_item(d, c) {
             Step::End => {
+                // Never reached below the count; `nothing` in the definition.
                 return Placed {
                     place: 0,
                     item: Item::Farewell(0),

@@ -21,6 +21,9 @@ ghost use Rattle.table.specs.Members.{digit, rowsAt};
 ghost use Rattle.table.specs.Choose.{atRate, freshWord, presentingWord, led, choiceAmong};
 ghost use Rattle.table.specs.Lateness.{biased, biasedLate, inTwo, leadOf, keepsLead, leadNext, IsLeading};
 
+// No fresh member to follow, by document 01's number.
+const NONE_FRESH: u64 = 20;
+
 // 30 s in units of 2^-32 s: as old as a fresh report can be.
 const LONGEST: u64 = 128849018880;
 
@@ -144,7 +147,7 @@ fn lead_of(place: usize, row: Record, rate: u32, at: Reading) -> Lead
     }
 }
 
-// Whether a member leads and goes before another: it is later, or as late and its number as low.
+// Whether a member leads and goes before another: it is later, or as late with a number no higher.
 fn keeps_lead(a: Lead, b: Lead) -> bool
     requires { ⌜ (a .late .part < 2 ^ 32) × (b .late .part < 2 ^ 32) ⌝ }
     ensures { λ r. ⌜ r ≡ keepsLead a b ⌝ }
@@ -233,7 +236,7 @@ fn choice_in(word: u64, members: [Record; 64], rate: u32, at: Reading) -> Choice
 {
     let place = leading_place(word, members, rate, at);
     if 64 <= place {
-        return Choice::Refused(20);
+        return Choice::Refused(NONE_FRESH);
     }
     target_of(members[place], count_held(word))
 }

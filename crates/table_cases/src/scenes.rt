@@ -100,7 +100,7 @@ pub(crate) fn sixty_four() {
     choose(report(d, first(66), at), at);
 }
 
-// Half a second before both clocks wrap, and a second and a half later.
+// Half a second before the NTP time wraps and 296 ticks before the RTP time does, and a second and a half later.
 pub(crate) fn wrapped_readings() {
     title(b"wrapped readings");
     let before = Reading {

@@ -1,5 +1,5 @@
--- Laws of times. Those of `step` and `delay-of-step` hang on a step of 0 being a full turn; the last three say only what
--- holds of any presentation after arrival.
+-- Laws of times. Those of `step` and `delay-of-step` hang on a step of 0 being a full turn; `delay-positive`, `delay-bound` and
+-- `expanded-by-delay` say only what holds of any presentation after arrival.
 use Prim.Native.Nat.{ℕ, _+_, _-_, _*_, _/_, _%_, _^_, _≤_, _<_}
 use mathlib.Core.Path.{_≡_, refl, sym, ap, _∙_}
 use mathlib.Core.Bool.{Bool, true, false}

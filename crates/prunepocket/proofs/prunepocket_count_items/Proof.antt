@@ -1,4 +1,4 @@
--- The answer and the count, by what the reader countAfter.
+-- The answer and the count, by what the reader counted.
 use mathlib.Core.Path.{refl, sym, _∙_}
 use borrow.Author.Needs.{needs}
 use Rattle.prunepocket.proofs.prunepocket_count_items.Statement.{statement}
