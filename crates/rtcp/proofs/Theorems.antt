@@ -1,5 +1,5 @@
 -- What a caller may rely on, beyond each call's own contract: how the count, the item at an index and the cursor agree.
-use Prim.Native.Nat.{ℕ, suc, zero, _+_, _-_, _*_, _%_, _≤_, _<_}
+use Prim.Native.Nat.{ℕ, suc, zero, _+_, _-_, _*_, _%_, _≤_}
 use mathlib.Core.Path.{_≡_, refl, sym, ap, _∙_}
 use mathlib.Core.List.{List}
 use mathlib.Core.Logic.{_↔_}
@@ -16,7 +16,7 @@ use Rattle.rtcp.specs.Refusals.{Check, passed, refused, refuseIf, andThe
 use Rattle.rtcp.specs.Walk.{walking, walk, checks}
 use Rattle.rtcp.specs.Packet.{version, packetType, count, size, content, paddingIsBad, contentIsShort, opens, byType, headCheck}
 use Rattle.rtcp.specs.Report.{blockType, blockLength, blockSize, blockCheck}
-use Rattle.rtcp.specs.Datagram.{blocksCheck, packetCheck, packetItems, packetsCheck, lengthIsBad, datagramCheck, datagramItems}
+use Rattle.rtcp.specs.Datagram.{blocksCheck, packetCheck, packetItems, lengthIsBad, datagramCheck, datagramItems}
 use Rattle.rtcp.specs.Cursor.{start, given}
 use Rattle.rtcp.specs.Answers.{refusal, countOf, itemOf}
 use Rattle.rtcp.proofs.Laws.Types.{byType-xr, byType-unless-xr}

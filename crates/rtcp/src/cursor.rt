@@ -15,7 +15,7 @@ use idms::Placed;
 use idms::Refusal;
 ghost use mathlib.Core.Path.{_≡_};
 ghost use mathlib.Core.Bool.{true};
-ghost use Prim.Native.Nat.{_+_, _-_, _≤_, _<_};
+ghost use Prim.Native.Nat.{_+_, _-_, _<_};
 ghost use lib.ListN.{length, getD};
 ghost use Rattle.rtcp.specs.Refusals.{passed};
 ghost use Rattle.rtcp.specs.Head.{headOf};

@@ -7,7 +7,6 @@ use crate::packet::packet_size;
 use crate::report::Block;
 use crate::report::block_at;
 use idms::Found;
-use idms::Placed;
 use idms::Refusal;
 ghost use mathlib.Core.Path.{_≡_};
 ghost use Prim.Native.Nat.{_+_, _-_, _%_, _≤_, _<_};

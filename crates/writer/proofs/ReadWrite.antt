@@ -28,7 +28,7 @@ use Rattle.rtcp.proofs.Laws.Answers.{item-refused, item-past, item-there}
 use Rattle.writer.specs.Messages.{bytes32, bytesOf, reportWords, settingsWords, reportIsUnwritable, settingsAreUnwritable, buffer}
 use Rattle.writer.specs.RoundTrip.{AreBytes, part, clearedReport, clearedSettings}
 use Rattle.writer.proofs.Laws.Words.{part-word, wordsAt, words-part, be64-high, be64-low}
-use Rattle.writer.proofs.Laws.Origins.{All, all-at, Origin, report, setting, farewell, items-origin}
+use Rattle.writer.proofs.Laws.Origins.{all-at, Origin, report, setting, farewell, items-origin}
 
 -- ---- an item that was read is one of the datagram's
 

@@ -1,16 +1,12 @@
 -- Demand 2, first half: what is written reads back as the same fields. The datagram is written out, so that the walk over
 -- it computes; what is left is that four bytes spell their word.
-use Prim.Native.Nat.{ℕ, _+_, _*_, _/_, _%_, _^_, _<_}
+use Prim.Native.Nat.{ℕ, _+_, _*_, _/_, _%_, _^_}
 use mathlib.Core.Path.{_≡_, refl, sym, ap, _∙_}
-use mathlib.Core.List.{List, [], _∷_}
-use mathlib.Core.Bool.{Bool, true, false, not, cond, _&&_, _||_}
-use lib.Dec.{ltb, eqb}
+use mathlib.Core.Bool.{Bool, true, false, cond}
 use native.Mathlib.Omega.{arith}
-use borrow.Author.Tests.{eqb-true, not-false}
 use Rattle.idms.specs.declared.Report.{Report}
 use Rattle.idms.specs.declared.Settings.{Settings}
 use Rattle.idms.specs.declared.Item.{Item}
-use Rattle.idms.specs.declared.Placed.{Placed}
 use Rattle.rtcp.specs.declared.walk.Count.{Count}
 use Rattle.idms.specs.declared.Found.{Found}
 use Rattle.rtcp.specs.Bytes.{joined, be16, be32, be64}
@@ -20,10 +16,9 @@ use Rattle.rtcp.specs.Report.{blockCheck, reportAt, blockItems}
 use Rattle.rtcp.specs.Settings.{settingsAt}
 use Rattle.rtcp.specs.Datagram.{packetCheck, packetItems, datagramCheck, datagramItems}
 use Rattle.rtcp.specs.Answers.{countOf, itemOf, pick}
-use Rattle.rtcp.proofs.Laws.Packet.{or-false}
 use Rattle.writer.specs.Messages.{reportWords, settingsWords, reportIsUnwritable}
 use Rattle.writer.specs.RoundTrip.{behindRR, ReportFits, SettingsFit}
-use Rattle.writer.proofs.Laws.Messages.{Writable, writable, writable-presented}
+use Rattle.writer.proofs.Laws.Messages.{writable, writable-presented}
 use Rattle.writer.proofs.Laws.Words.{joined-bytes32, joined-halves}
 
 -- a word as it is read back

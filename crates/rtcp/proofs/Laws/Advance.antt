@@ -1,7 +1,7 @@
 -- Laws of one step of a cursor, by what stands there.
-use Prim.Native.Nat.{ℕ, suc, _+_, _-_, _*_, _≤_, _<_}
-use mathlib.Core.Path.{_≡_, refl, sym, ap, _∙_}
-use mathlib.Core.List.{List, [], _∷_}
+use Prim.Native.Nat.{ℕ, _+_, _-_, _*_, _≤_, _<_}
+use mathlib.Core.Path.{_≡_}
+use mathlib.Core.List.{List}
 use mathlib.Core.Bool.{Bool, true, false, not}
 use lib.ListN.{length}
 use lib.Dec.{ltb, leb}
@@ -10,16 +10,16 @@ use borrow.Author.Tests.{lt-ltb, le-ltb, le-leb, lt-leb, ltb-false, leb-true, no
 use Rattle.idms.specs.declared.Item.{Item}
 use Rattle.rtcp.specs.declared.cursor.State.{State}
 use Rattle.rtcp.specs.declared.cursor.Advance.{Advance}
-use Rattle.rtcp.specs.Refusals.{Check, passed, refused}
+use Rattle.rtcp.specs.Refusals.{passed, refused}
 use Rattle.rtcp.specs.Bytes.{be32}
 use Rattle.rtcp.specs.Packet.{packetType, count, size, content, contentIsShort}
-use Rattle.rtcp.specs.Report.{blockSize, blockCheck, reports, reportAt, blockItems}
+use Rattle.rtcp.specs.Report.{blockSize, blockCheck, reports, reportAt}
 use Rattle.rtcp.specs.Settings.{settingsItem}
 use Rattle.rtcp.specs.Farewell.{farewellItem}
-use Rattle.rtcp.specs.Cursor.{past, readable, entered, torn, advance, left}
+use Rattle.rtcp.specs.Cursor.{past, readable, entered, torn, advance}
 use Rattle.rtcp.proofs.Laws.Types.{byType-bye, byType-xr, byType-settings, byType-unread}
 use Rattle.rtcp.proofs.Laws.Packet.{or-false, content-inside}
-use Rattle.rtcp.proofs.Laws.Blocks.{items-none, items-one, block-inside, and-left, and-right}
+use Rattle.rtcp.proofs.Laws.Blocks.{items-none, items-one, and-left, and-right}
 
 -- ---- readable
 

@@ -1,6 +1,6 @@
 -- Laws of the public answers, by what was checked.
-use Prim.Native.Nat.{ℕ, suc, zero, _-_, _%_, _*_, _≤_, _<_}
-use mathlib.Core.Path.{_≡_, refl, sym, ap, _∙_}
+use Prim.Native.Nat.{ℕ, suc, zero, _-_, _%_, _≤_, _<_}
+use mathlib.Core.Path.{_≡_, refl, sym, ap}
 use mathlib.Core.List.{List, _∷_}
 use mathlib.Core.Bool.{true, false, not, _||_}
 use lib.ListN.{length, getD}
@@ -12,7 +12,7 @@ use Rattle.idms.specs.declared.Refusal.{Refusal}
 use Rattle.rtcp.specs.declared.walk.Count.{Count}
 use Rattle.idms.specs.declared.Found.{Found}
 use Rattle.rtcp.specs.declared.cursor.Opened.{Opened}
-use Rattle.rtcp.specs.Refusals.{Check, passed, refused, refuseIf}
+use Rattle.rtcp.specs.Refusals.{passed, refused}
 use Rattle.rtcp.specs.Datagram.{packetsCheck, packetsItems, lengthIsBad, datagramCheck, datagramItems}
 use Rattle.rtcp.specs.Answers.{refusal, counted, countOf, nothing, pick, itemOf, openedOf}
 use Rattle.rtcp.specs.Cursor.{start}

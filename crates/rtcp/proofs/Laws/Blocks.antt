@@ -1,6 +1,6 @@
 -- Laws of a block: its checks, the items that it gives, and the code's answer at it.
 use Prim.Native.Nat.{ℕ, _+_, _≤_, _<_}
-use mathlib.Core.Path.{_≡_, refl, sym, ap, _∙_}
+use mathlib.Core.Path.{_≡_, refl, ap, _∙_}
 use mathlib.Core.List.{List, [], _∷_}
 use mathlib.Core.Bool.{Bool, true, false, not, cond, _&&_}
 use lib.ListN.{length}
@@ -8,7 +8,6 @@ use lib.Dec.{ltb, eqb}
 use native.Mathlib.Omega.{arith}
 use borrow.Author.Tests.{ltb-false, lt-ltb, le-ltb, eqb-true, eq-eqb, ne-eqb, not-false}
 use Rattle.idms.specs.declared.Item.{Item}
-use Rattle.idms.specs.declared.Placed.{Placed}
 use Rattle.rtcp.specs.declared.report.Block.{Block}
 use Rattle.rtcp.specs.Refusals.{Check, passed, refused, refuseIf}
 use Rattle.rtcp.specs.Report.{blockType, blockLength, blockSize, blockCheck, role, reports, reportAt, blockItems}

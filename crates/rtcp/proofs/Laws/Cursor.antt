@@ -2,7 +2,7 @@
 -- passes something that gives none; and what is left to step over falls, so that the next item is found.
 use Prim.Native.Nat.{ℕ, suc, zero, _+_, _-_, _*_, _%_, _≤_, _<_}
 use mathlib.Core.Path.{_≡_, refl, sym, ap, _∙_}
-use mathlib.Core.List.{List, [], _∷_, _++_, append-assoc}
+use mathlib.Core.List.{List, [], _∷_, _++_}
 use mathlib.Core.Bool.{Bool, true, false}
 use lib.ListN.{length}
 use lib.Dec.{ltb, leb}
@@ -13,17 +13,17 @@ use Rattle.rtcp.specs.declared.cursor.State.{State}
 use Rattle.rtcp.specs.declared.cursor.Cursor.{Cursor}
 use Rattle.rtcp.specs.declared.cursor.Step.{Step}
 use Rattle.rtcp.specs.declared.cursor.Advance.{Advance}
-use Rattle.rtcp.specs.Refusals.{Check, passed, refused, refuseIf}
+use Rattle.rtcp.specs.Refusals.{Check, passed, refused}
 use Rattle.rtcp.specs.Bytes.{be32}
-use Rattle.rtcp.specs.Packet.{packetType, count, size, content, headCheck}
-use Rattle.rtcp.specs.Report.{blockSize, blockCheck, reports, blockItems}
-use Rattle.rtcp.specs.Datagram.{sourceItems, blocksCheck, blocksItems, packetCheck, packetItems, packetsCheck, packetsItems, lengthIsBad, datagramCheck, datagramItems}
+use Rattle.rtcp.specs.Packet.{packetType, count, size, content}
+use Rattle.rtcp.specs.Report.{blockSize, blockCheck, reports}
+use Rattle.rtcp.specs.Datagram.{blocksCheck, blocksItems, packetItems, packetsCheck, packetsItems, lengthIsBad, datagramCheck, datagramItems}
 use Rattle.rtcp.specs.Cursor.{past, readable, entered, torn, advance, left, cursorAt, seek, nextOf, start, remaining, given}
-use Rattle.rtcp.proofs.Laws.Packet.{check-passes, HeadPassed, head-passed, least-bye, least-xr}
+use Rattle.rtcp.proofs.Laws.Packet.{check-passes, least-bye, least-xr}
 use Rattle.rtcp.proofs.Laws.Blocks.{items-none, items-one, block-inside}
-use Rattle.rtcp.proofs.Laws.Datagram.{sources-part, sources-end, blocks-turn, blocks-end, PacketsTurn, packets-turn, packets-end, items-bye, items-xr, items-settings, items-unread, check-xr, head-of-packet, Apart, bye, xr, settings, unread, apart}
+use Rattle.rtcp.proofs.Laws.Datagram.{sources-part, sources-end, blocks-turn, blocks-end, PacketsTurn, packets-turn, packets-end, items-bye, items-xr, items-settings, items-unread, check-xr, Apart, bye, xr, settings, unread, apart}
 use Rattle.rtcp.proofs.Laws.Answers.{length-words}
-use Rattle.rtcp.proofs.Laws.Advance.{packet-torn, packet-stops, packet-entered, readable-there, Readable, readable-packet, entered-bye, entered-xr, entered-settings, entered-unread, sources-behind, sources-torn, sources-item, blocks-behind, blocks-torn, blocks-stop, blocks-pass, blocks-item, whole-word, torn-not}
+use Rattle.rtcp.proofs.Laws.Advance.{packet-torn, packet-stops, packet-entered, readable-there, Readable, readable-packet, entered-bye, entered-xr, entered-settings, entered-unread, sources-behind, sources-torn, sources-item, blocks-behind, blocks-torn, blocks-stop, blocks-pass, blocks-item, whole-word}
 
 -- ---- left falls with each step that gives no item
 

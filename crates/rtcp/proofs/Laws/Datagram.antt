@@ -9,17 +9,17 @@ use native.Mathlib.Omega.{arith}
 use borrow.Author.Tests.{eqb-true, eqb-false}
 use Rattle.idms.specs.declared.Placed.{Placed}
 use Rattle.rtcp.specs.declared.walk.Count.{Count}
-use Rattle.rtcp.specs.Refusals.{Check, passed, refused, andThen}
+use Rattle.rtcp.specs.Refusals.{passed, refused}
 use Rattle.rtcp.specs.Bytes.{be32}
-use Rattle.rtcp.specs.Packet.{packetType, count, size, content, headCheck, byType}
+use Rattle.rtcp.specs.Packet.{packetType, count, size, content, headCheck}
 use Rattle.rtcp.specs.Report.{blockSize, blockCheck, blockItems, reports}
 use Rattle.rtcp.specs.Settings.{settingsItem}
 use Rattle.rtcp.specs.Farewell.{farewellItem}
-use Rattle.rtcp.specs.Datagram.{sourceItems, blocksCheck, blocksItems, packetCheck, packetItems, packetsCheck, packetsItems, datagramItems}
-use Rattle.rtcp.specs.Answers.{counted, refusal}
+use Rattle.rtcp.specs.Datagram.{sourceItems, blocksCheck, blocksItems, packetCheck, packetItems, packetsCheck, packetsItems}
+use Rattle.rtcp.specs.Answers.{counted}
 use Rattle.rtcp.proofs.Laws.Types.{byType-bye, byType-xr, byType-settings, byType-unread}
 use Rattle.rtcp.proofs.Laws.Walk.{walk-part, walk-end, both-pass, checks-part, gives-part, gives-end, Roomy, gives-bound}
-use Rattle.rtcp.proofs.Laws.Packet.{HeadPassed, head-passed, least-bye, least-xr, exact-settings}
+use Rattle.rtcp.proofs.Laws.Packet.{HeadPassed, head-passed, least-bye, exact-settings}
 use Rattle.rtcp.proofs.Laws.Blocks.{block-inside, length-blockItems, one-or-none}
 
 -- ---- sourceItems

@@ -13,8 +13,7 @@ use Rattle.idms.specs.declared.Item.{Item}
 use Rattle.idms.specs.declared.Placed.{Placed}
 use Rattle.idms.specs.declared.Refusal.{Refusal}
 use Rattle.rtcp.specs.declared.walk.Count.{Count}
-use Rattle.rtcp.specs.Refusals.{Check, passed, refused}
-use Rattle.rtcp.specs.Datagram.{packetsItems, datagramCheck, datagramItems}
+use Rattle.rtcp.specs.Datagram.{packetsItems, datagramItems}
 use Rattle.rtcp.specs.Answers.{refusal, countOf}
 use Rattle.rtcp.proofs.Laws.Puts.{puts-front, length-puts, puts-append}
 use Rattle.rtcp.proofs.Laws.Datagram.{packets-end}

@@ -1,22 +1,22 @@
 -- Where the items of a datagram come from: every report from a block of type 12, role 1 and 8 words, every settings item
 -- from a packet of type 211, both whole in the datagram.
 use Prim.Native.Nat.{ℕ, suc, zero, _+_, _-_, _*_, _≤_, _<_}
-use mathlib.Core.Path.{_≡_, refl, sym, ap, _∙_}
+use mathlib.Core.Path.{_≡_, refl, sym, _∙_}
 use mathlib.Core.List.{List, [], _∷_, _++_}
-use mathlib.Core.Bool.{Bool, true, false, not, _&&_}
+use mathlib.Core.Bool.{Bool, true, false, not}
 use lib.ListN.{length, getD}
 use lib.Dec.{ltb, eqb}
 use native.Mathlib.Omega.{arith}
 use borrow.Author.Tests.{ltb-true, ltb-false, eqb-true, not-false}
 use Rattle.idms.specs.declared.Item.{Item}
 use Rattle.idms.specs.declared.Placed.{Placed}
-use Rattle.rtcp.specs.Refusals.{Check, passed}
+use Rattle.rtcp.specs.Refusals.{passed}
 use Rattle.rtcp.specs.Bytes.{be32}
-use Rattle.rtcp.specs.Packet.{version, packetType, count, size, content, paddingIsBad, contentIsShort, opens, headCheck}
-use Rattle.rtcp.specs.Report.{blockLength, blockSize, blockItems, reports, reportAt}
+use Rattle.rtcp.specs.Packet.{version, packetType, count, size, content, headCheck}
+use Rattle.rtcp.specs.Report.{blockLength, blockSize, reports, reportAt}
 use Rattle.rtcp.specs.Settings.{settingsItem}
 use Rattle.rtcp.specs.Datagram.{sourceItems, blocksCheck, blocksItems, packetItems, packetsCheck, packetsItems, datagramCheck, datagramItems, lengthIsBad}
-use Rattle.rtcp.proofs.Laws.Packet.{check-passes, HeadPassed, least-bye, least-xr, exact-settings}
+use Rattle.rtcp.proofs.Laws.Packet.{check-passes, exact-settings}
 use Rattle.rtcp.proofs.Laws.Blocks.{items-one, items-none, report-words}
 use Rattle.rtcp.proofs.Laws.Datagram.{sources-part, sources-end, BlocksTurn, blocks-turn, blocks-end, PacketsTurn, packets-turn, packets-end, items-bye, items-xr, items-settings, items-unread, check-xr, Apart, bye, xr, settings, unread, apart}
 
