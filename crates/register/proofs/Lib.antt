@@ -1,4 +1,6 @@
+pub mod Letter
 pub mod Rows
+pub mod History
 pub mod Order
 pub mod Permuted
 pub mod Leading

@@ -1,6 +1,6 @@
 -- Laws of the lists kept by a test and of the test that some element passes: how many they hold, and that a permutation
 -- keeps them. By induction on the list or on the permutation, with the test's value as a case.
-use Prim.Native.Nat.{suc, _≤_}
+use Prim.Native.Nat.{suc, _≤_, _<_}
 use mathlib.Core.Bool.{Bool, true, false, not, cond, _&&_, _||_, false≢true}
 use mathlib.Core.List.{List, [], _∷_, List·Memᴰ, List·Memᴰ·head, List·Memᴰ·tail, List·Permᴰ, List·Permᴰ·nil, List·Permᴰ·cons, List·Permᴰ·swap, List·Permᴰ·trans, Permᴰ·refl}
 use mathlib.Core.Path.{_≡_, refl, sym, ap, _∙_}
@@ -211,6 +211,33 @@ kept-member test x (y ∷ ys) m = go (test y) refl m (kept-member test x ys)
     go true e (List·Memᴰ·head q) rest = (ap test q ∙ e, List·Memᴰ·head q)
     go true e (List·Memᴰ·tail m′) rest = let found : _ = rest m′ in (found .0, List·Memᴰ·tail (found .1))
     go false e m′ rest = let found : _ = rest m′ in (found .0, List·Memᴰ·tail (found .1))
+
+-- what passes and is there is kept
+pub member-kept :
+    {A : Type 0} (test : A → Bool) (x : A) (xs : List A) → test x ≡ true → List·Memᴰ x xs → List·Memᴰ x (keep test xs)
+unfolding keep
+member-kept test x (y ∷ ys) e (List·Memᴰ·head q) =
+    rw (keep-yes test y ys (ap test (sym q) ∙ e)) (List·Memᴰ·head q)
+member-kept test x (y ∷ ys) e (List·Memᴰ·tail m) = go (test y) (member-kept test x ys e m)
+  where
+    go : (t : Bool) → List·Memᴰ x (keep test ys) → List·Memᴰ x (cond t (y ∷ keep test ys) (keep test ys))
+    go true kept = List·Memᴰ·tail kept
+    go false kept = kept
+
+-- fewer are kept where one does not pass
+pub length-keep-< :
+    {A : Type 0} (test : A → Bool) (x : A) (xs : List A) → test x ≡ false → List·Memᴰ x xs →
+    length (keep test xs) < length xs
+unfolding keep
+length-keep-< test x (y ∷ ys) e (List·Memᴰ·head q) =
+    omega (arith, length-keep-≤ test ys, ap length (keep-no test y ys (ap test (sym q) ∙ e)))
+length-keep-< test x (y ∷ ys) e (List·Memᴰ·tail m) = go (test y) (length-keep-< test x ys e m)
+  where
+    go :
+        (t : Bool) → length (keep test ys) < length ys →
+        length (cond t (y ∷ keep test ys) (keep test ys)) < suc (length ys)
+    go true less = omega arith
+    go false less = omega arith
 
 -- ---- two tests, one after the other
 
