@@ -5,7 +5,7 @@ use Rattle.origin.specs.Origins.{sameBytes, sameOrigin}
 use Rattle.places.specs.Places.{heldIn, lowestFree}
 use Rattle.register.specs.Register.{reportChecks}
 use Rattle.register.specs.Choosing.{lateness}
-use Rattle.register.specs.Leader.{leader}
+use Rattle.table.specs.Leader.{leader}
 use Rattle.table.specs.Members.{emptyTable, rowsAt, placeOf, keepWord}
 use Rattle.table.specs.Calls.{opened, numberOf, filed, answered}
 use Rattle.table.specs.Choose.{led, choiceAmong, choiceOf}

@@ -3,7 +3,6 @@ pub mod Rows
 pub mod History
 pub mod Order
 pub mod Permuted
-pub mod Leading
 pub mod Stands
 pub mod Promised
 pub mod Vectors

@@ -2,6 +2,7 @@
 -- sums of naturals are.
 use Prim.Native.Nat.{ℕ, zero, suc, _+_, _-_, _*_, _^_, _≤_, _<_}
 use mathlib.Core.Bool.{Bool, true, false, not, _&&_, _||_, and-eq-true-iff, true≢false, false≢true}
+use mathlib.Core.List.{[], _∷_}
 use mathlib.Core.Path.{_≡_, refl, sym, ap, subst, _∙_}
 use lib.Dec.{T, leb, ltb}
 use lib.IntN.{ℤ, pos, negsuc, negℤ, subℕ, _+ℤ_, _*ℤ_}
@@ -10,7 +11,8 @@ use native.Mathlib.Nat.{le-refl, le-trans}
 use native.Mathlib.Omega.{arith}
 use borrow.Author.Tests.{ltb-true, ltb-false, leb-true, leb-false, lt-ltb, le-ltb, le-leb, lt-leb}
 use Rattle.register.specs.declared.Record.{Record}
-use Rattle.register.specs.Choosing.{lateness, precedes}
+use Rattle.register.specs.Register.{Rows}
+use Rattle.register.specs.Choosing.{lateness, precedes, precedesAll}
 
 -- ---- tests of order
 
@@ -228,3 +230,12 @@ precedes-total late a b e =
     low more true q =
         absurd (false≢true (sym e ∙ true-precedes late a b more (λ h. leb-true (a .source) (b .source) q)))
     low more false q = omega (arith, leb-false (a .source) (b .source) q)
+
+pub precedesAll-trans :
+    (late : Record → ℤ) (a b : Record) (rows : Rows) → precedes late a b ≡ true → precedesAll late b rows ≡ true →
+    precedesAll late a rows ≡ true
+unfolding precedesAll
+precedesAll-trans late a b [] e h = refl
+precedesAll-trans late a b (row ∷ rows) e h =
+    let both : _ = and-eq-true-iff (precedes late b row) (precedesAll late b rows) .0 h in
+    rw (precedes-trans late a b row e (both .0), precedesAll-trans late a b rows e (both .1)) refl

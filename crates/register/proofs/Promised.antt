@@ -1,8 +1,8 @@
--- Choosing keeps demand 3's promise on sound rows: the leading row's lateness is the greatest of the counted rows', and
+-- Choosing keeps demand 3's promise on sound rows: the chosen row's lateness is the greatest of the counted rows', and
 -- the three times answered give it back.
 use Prim.Native.Nat.{ℕ, _*_, _^_, _<_}
 use mathlib.Core.Bool.{Bool, true, false, cond, _||_, true≢false}
-use mathlib.Core.List.{[], _∷_, List·Memᴰ, List·Memᴰ·not-nil}
+use mathlib.Core.List.{[], _∷_, List·Memᴰ, List·Memᴰ·head, List·Memᴰ·tail, List·Memᴰ·not-nil}
 use mathlib.Core.Path.{_≡_, refl, sym, ap, subst, _∙_}
 use lib.Dec.{eqb, ltb}
 use lib.IntN.{ℤ, pos, _*ℤ_, +ℤ-idr}
@@ -15,12 +15,11 @@ use Rattle.register.specs.declared.Record.{Record}
 use Rattle.register.specs.declared.Reading.{Reading}
 use Rattle.register.specs.declared.Choice.{Choice}
 use Rattle.register.specs.Register.{presents, Opening, Rows, keep, some, freshAt}
-use Rattle.register.specs.Choosing.{fresh, isArrival, counted, latenessOf, precedesAll, targetOf, firstOf, choice, delayBetween, targetLateness, moment}
-use Rattle.register.specs.Leader.{leader}
+use Rattle.register.specs.Choosing.{fresh, isArrival, counted, latenessOf, precedes, precedesAll, targetOf, firstOf, choice, delayBetween, targetLateness, moment}
 use Rattle.register.specs.Promise.{Promised}
-use Rattle.register.proofs.Rows.{none-kept, kept-member}
-use Rattle.register.proofs.Order.{≤ℤ-shift}
-use Rattle.register.proofs.Leading.{leader-chosen, leader-member, leader-greatest}
+use Rattle.register.proofs.Rows.{none-kept, kept-member, member-kept}
+use Rattle.register.proofs.Order.{≤ℤ-shift, precedes-true, precedes-refl, precedes-total, precedesAll-trans}
+use Rattle.register.proofs.Permuted.{precedes-member}
 use Rattle.register.proofs.Stands.{SoundRow, Sound}
 
 -- ---- rows counted
@@ -81,7 +80,7 @@ delay-answered o row sound true e =
 
 -- ---- the choice
 
-choice-of :
+pub choice-of :
     (o : Opening) (at : Reading) (rows those : Rows) → counted o at rows ≡ those →
     choice o at rows
     ≡ firstOf (length those)
@@ -99,13 +98,28 @@ pub choice-none :
 unfolding keep
 choice-none o at rows e = choice-of o at rows [] e
 
-pub choice-leading :
-    (o : Opening) (at : Reading) (rows : Rows) (a : Record) (rest : Rows) → counted o at rows ≡ a ∷ rest →
-    choice o at rows
-    ≡ targetOf (leader (latenessOf o at) a rest) (length (a ∷ rest))
-choice-leading o at rows a rest e =
-    choice-of o at rows (a ∷ rest) e
-    ∙ leader-chosen (latenessOf o at) (length (a ∷ rest)) a rest
+-- of one row or more, some row precedes all
+first-exists :
+    (late : Record → ℤ) (a : Record) (rows : Rows) →
+    (x : Record) × List·Memᴰ x (a ∷ rows) × (precedesAll late x (a ∷ rows) ≡ true)
+unfolding precedesAll
+first-exists late a [] = (a, List·Memᴰ·head refl, rw (precedes-refl late a) refl)
+first-exists late a (b ∷ rows) = go (first-exists late b rows)
+  where
+    go :
+        (x : Record) × List·Memᴰ x (b ∷ rows) × (precedesAll late x (b ∷ rows) ≡ true) →
+        (x : Record) × List·Memᴰ x (a ∷ b ∷ rows) × (precedesAll late x (a ∷ b ∷ rows) ≡ true)
+    go found = turn (precedes late a (found .0)) refl
+      where
+        turn :
+            (t : Bool) → precedes late a (found .0) ≡ t →
+            (x : Record) × List·Memᴰ x (a ∷ b ∷ rows) × (precedesAll late x (a ∷ b ∷ rows) ≡ true)
+        turn true e =
+            let behind : precedesAll late a (b ∷ rows) ≡ true =
+            precedesAll-trans late a (found .0) (b ∷ rows) e (found .2) in
+            (a, List·Memᴰ·head refl, rw (precedes-refl late a) behind)
+        turn false e =
+            (found .0, List·Memᴰ·tail (found .1), rw (precedes-total late a (found .0) e) (found .2))
 
 -- a counted row than which none is later, as a target
 promised-greatest :
@@ -138,8 +152,23 @@ choice-promised o at rows sound = go (counted o at rows) refl
     go : (those : Rows) → counted o at rows ≡ those → Promised o at rows (choice o at rows)
     go [] e = rw (choice-none o at rows e) (refl, counted-none-fresh o at rows e)
     go (a ∷ rest) e =
-        let late : Record → ℤ = latenessOf o at in
-        rw (choice-leading o at rows a rest e)
-        (promised-greatest o at rows sound (leader late a rest) (length (a ∷ rest))
-        (subst (List·Memᴰ (leader late a rest)) (sym e) (leader-member late a rest))
-        (λ other m. leader-greatest late a rest other (subst (List·Memᴰ other) e m)))
+        rw (choice-of o at rows (a ∷ rest) e)
+        (first (keep test (a ∷ rest)) refl)
+      where
+        late : Record → ℤ
+        late = latenessOf o at
+
+        test : Record → Bool
+        test row = precedesAll late row (a ∷ rest)
+
+        first : (those : Rows) → keep test (a ∷ rest) ≡ those → Promised o at rows (firstOf (length (a ∷ rest)) those)
+        first [] f =
+            let found : _ = first-exists late a rest in
+            let kept : _ = member-kept test (found .0) (a ∷ rest) (found .2) (found .1) in
+            absurd (List·Memᴰ·not-nil (subst (List·Memᴰ (found .0)) f kept))
+        first (y ∷ ys) f =
+            let kept : _ = kept-member test y (a ∷ rest) (subst (List·Memᴰ y) (sym f) (List·Memᴰ·head refl)) in
+            promised-greatest o at rows sound y (length (a ∷ rest)) (subst (List·Memᴰ y) (sym e) (kept .1))
+            (λ other m.
+            precedes-true late y other
+            (precedes-member late y other (a ∷ rest) (kept .0) (subst (List·Memᴰ other) e m)) .0)

@@ -1,62 +1,38 @@
--- What an accepted report passed, and that every row of the register stands on such a report.
+-- Every row of the register stands on an accepted report, and so on one that passed its checks.
 use Prim.Native.Nat.{ℕ, suc, _^_, _<_}
-use mathlib.Core.Bool.{Bool, true, false, not, cond, _&&_}
-use mathlib.Core.List.{[], _∷_, List·Memᴰ, List·Memᴰ·head, List·Memᴰ·tail, List·Memᴰ·not-nil}
-use mathlib.Core.Path.{_≡_, refl, sym, subst}
-use lib.Dec.{eqb}
+use mathlib.Core.Bool.{Bool, true, false, cond, _&&_}
+use mathlib.Core.List.{List, [], _∷_, _++_, List·Memᴰ}
+use mathlib.Core.Path.{_≡_, refl}
 use native.Mathlib.Omega.{arith}
-use borrow.Author.Tests.{eqb-true}
 use Rattle.times.specs.Times.{isFar, isAged, isBadlyPresented}
 use Rattle.register.specs.declared.Record.{Record}
 use Rattle.register.specs.declared.Reading.{Reading}
-use Rattle.register.specs.Register.{Opening, Rows, Call, presents, hasNumber, isHeldElsewhere, renewed, reportChecks, hasNoRoom, answer, freshAt, accepted, after}
-use Rattle.register.specs.Promise.{InRange}
-use Rattle.register.proofs.Rows.{clash, kept-member}
+use Rattle.register.specs.Register.{Opening, Rows, Call, presents, isOtherStream, reportChecks, answers, afterAll}
+use Rattle.register.specs.Promise.{InRange, AllInRange}
+use Rattle.register.specs.Letter.{got, History, history, madeIn, OtherStream, BadlyPresented, Stands, linesOf, MeansFrom, Means}
+use Rattle.register.proofs.Letter.Lines.{untold}
+use Rattle.register.proofs.Letter.Tests.{own-stream, tells-badly-presented}
+use Rattle.register.proofs.Letter.Theorem.{made-of, letter}
 
--- ---- answered 0, a report passed every check
+-- ---- answered 0, a report found room
 
-first-check : (t : Bool) (n m : ℕ) → cond t (suc n) m ≡ 0 → (t ≡ false) × (m ≡ 0)
+first-check : (t : Bool) (n m : ℕ) → cond t (suc n) m ≡ 0 → m ≡ 0
 first-check true n m e = absurd (omega arith)
-first-check false n m e = (refl, e)
+first-check false n m e = e
 
-both-true : (s t : Bool) → not (s && t) ≡ false → (s ≡ true) × (t ≡ true)
-both-true true true e = (refl, refl)
-both-true true false e = clash (sym e)
-both-true false t e = clash (sym e)
-
-pub record Passed (o : Opening) (x : Record) (at : Reading) (elsewhere noRoom : Bool) : Type 0 where
-  pub group : x .report .group ≡ o .group
-  pub media : x .report .media ≡ o .media
-  pub here : elsewhere ≡ false
-  pub near : isFar (at .ntp) (x .report .received) ≡ false
-  pub young : isAged (o .rate) (at .rtp) (x .report .rtp) ≡ false
-  pub presented : (presents x && isBadlyPresented (x .report .received) (x .report .presented)) ≡ false
-  pub room : noRoom ≡ false
-
-pub accepted-passed :
+pub accepted-room :
     (o : Opening) (x : Record) (at : Reading) (elsewhere noRoom : Bool) → reportChecks o x at elsewhere noRoom ≡ 0 →
-    Passed o x at elsewhere noRoom
+    noRoom ≡ false
 unfolding reportChecks
-accepted-passed o x at elsewhere noRoom e =
-    let group : Bool = eqb (x .report .group) (o .group) in
-    let media : Bool = eqb (x .report .media) (o .media) in
-    let past13 : _ = first-check (not (group && media)) 12 _ e in
-    let past14 : _ = first-check elsewhere 13 _ (past13 .1) in
-    let past15 : _ = first-check (isFar (at .ntp) (x .report .received)) 14 _ (past14 .1) in
-    let past16 : _ = first-check (isAged (o .rate) (at .rtp) (x .report .rtp)) 15 _ (past15 .1) in
+accepted-room o x at elsewhere false e = refl
+accepted-room o x at elsewhere true e =
+    let past13 : _ = first-check (isOtherStream o (x .report .group) (x .report .media)) 12 _ e in
+    let past14 : _ = first-check elsewhere 13 _ past13 in
+    let past15 : _ = first-check (isFar (at .ntp) (x .report .received)) 14 _ past14 in
+    let past16 : _ = first-check (isAged (o .rate) (at .rtp) (x .report .rtp)) 15 _ past15 in
     let past17 : _ =
-    first-check (presents x && isBadlyPresented (x .report .received) (x .report .presented)) 16 _ (past16 .1) in
-    let past18 : _ = first-check noRoom 17 _ (past17 .1) in
-    let own : _ = both-true group media (past13 .0) in
-    record {
-      group = eqb-true (x .report .group) (o .group) (own .0);
-      media = eqb-true (x .report .media) (o .media) (own .1);
-      here = past14 .0;
-      near = past15 .0;
-      young = past16 .0;
-      presented = past17 .0;
-      room = past18 .0;
-    }
+    first-check (presents x && isBadlyPresented (x .report .received) (x .report .presented)) 16 _ past16 in
+    absurd (omega (arith, past17))
 
 -- ---- every row stands on an accepted report
 
@@ -71,58 +47,36 @@ pub record SoundRow (o : Opening) (row : Record) : Type 0 where
 abbrev pub Sound : Opening → Rows → Type 0
 Sound o rows = (row : Record) → List·Memᴰ row rows → SoundRow o row
 
-pub sound-none : (o : Opening) → Sound o []
-sound-none o row member = absurd (List·Memᴰ·not-nil member)
+range-in :
+    (h before : History) (call : Call) (number : ℕ) (behind : History) → AllInRange (madeIn h) →
+    h ≡ before ++ (got call number ∷ behind) → InRange call
+unfolding madeIn AllInRange
+range-in h [] call number behind ranges e =
+    let those : AllInRange (madeIn (got call number ∷ behind)) = rw e at ranges in
+    those .0
+range-in h (got first n ∷ before) call number behind ranges e =
+    let those : AllInRange (madeIn (got first n ∷ (before ++ (got call number ∷ behind)))) = rw e at ranges in
+    range-in (before ++ (got call number ∷ behind)) before call number behind (those .1) refl
 
-renewed-step :
-    (row r x : Record) (rows : Rows) →
-    (List·Memᴰ row (renewed rows x) → List·Memᴰ row (x ∷ rows)) →
-    List·Memᴰ row (renewed (r ∷ rows) x) →
-    List·Memᴰ row (x ∷ r ∷ rows)
-unfolding renewed
-renewed-step row r x rows rest member = go (hasNumber (x .source) r) refl
-  where
-    under : List·Memᴰ row (x ∷ rows) → List·Memᴰ row (x ∷ r ∷ rows)
-    under (List·Memᴰ·head e) = List·Memᴰ·head e
-    under (List·Memᴰ·tail m) = List·Memᴰ·tail (List·Memᴰ·tail m)
+accepted-sound :
+    (o : Opening) (h : History) (x : Record) (at : Reading) → Means (linesOf o h (Call.report x at)) 0 →
+    x .report .received < 2 ^ 64 → SoundRow o x
+unfolding linesOf MeansFrom
+accepted-sound o h x at means range =
+    let none : _ = means .1 .1 .1 .1 .1 .1 .0 refl in
+    let own : _ = own-stream o x (none .0 .0 .0 .0 .0 .1) in
+    record {
+      group = own .0;
+      media = own .1;
+      range = range;
+      presented = untold _ (tells-badly-presented x) (none .0 .1);
+    }
 
-    behind : List·Memᴰ row (r ∷ renewed rows x) → List·Memᴰ row (x ∷ r ∷ rows)
-    behind (List·Memᴰ·head e) = List·Memᴰ·tail (List·Memᴰ·head e)
-    behind (List·Memᴰ·tail m) = under (rest m)
-
-    go : (t : Bool) → hasNumber (x .source) r ≡ t → List·Memᴰ row (x ∷ r ∷ rows)
-    go true e = under (rw e at member)
-    go false e = behind (rw e at member)
-
--- a row of the rows renewed is the report's, or was there
-member-renewed : (row : Record) (rows : Rows) (x : Record) → List·Memᴰ row (renewed rows x) → List·Memᴰ row (x ∷ rows)
-unfolding renewed
-member-renewed row [] x member = member
-member-renewed row (r ∷ rows) x member = renewed-step row r x rows (member-renewed row rows x) member
-
-sound-cons : (o : Opening) (x : Record) (rows : Rows) → SoundRow o x → Sound o rows → Sound o (x ∷ rows)
-sound-cons o x rows first sound row (List·Memᴰ·head e) = subst (SoundRow o) (sym e) first
-sound-cons o x rows first sound row (List·Memᴰ·tail m) = sound row m
-
-sound-accepted :
-    (o : Opening) (rows : Rows) (call : Call) → InRange call → Sound o rows → answer o rows call ≡ 0 →
-    Sound o (accepted o rows call)
-unfolding answer
-sound-accepted o rows (Call.report x at) range sound e =
-    let passed : _ =
-    accepted-passed o x at (isHeldElsewhere rows (x .source) (x .origin)) (hasNoRoom rows (x .source)) e in
-    let sounds : SoundRow o x =
-    record { group = passed .group; media = passed .media; range = range; presented = passed .presented } in
-    λ row member. sound-cons o x rows sounds sound row (member-renewed row rows x member)
-sound-accepted o rows (Call.farewell source origin) range sound e =
-    λ row member. sound row (kept-member (λ r. not (hasNumber source r)) row rows member .1)
-sound-accepted o rows (Call.sweep at) range sound e =
-    λ row member. sound row (kept-member (freshAt o at) row rows member .1)
-
-pub sound-after : (o : Opening) (rows : Rows) (call : Call) → InRange call → Sound o rows → Sound o (after o rows call)
-unfolding after
-sound-after o rows call range sound = go (eqb (answer o rows call) 0) refl
-  where
-    go : (t : Bool) → eqb (answer o rows call) 0 ≡ t → Sound o (after o rows call)
-    go true e = rw e (sound-accepted o rows call range sound (eqb-true (answer o rows call) 0 e))
-    go false e = rw e sound
+pub sound-rows : (o : Opening) (calls : List Call) → AllInRange calls → Sound o (afterAll o [] calls)
+sound-rows o calls ranges row member =
+    let h : History = history calls (answers o [] calls) in
+    let made : madeIn h ≡ calls = made-of o [] calls in
+    let s : Stands o h row = letter o calls .stands row .0 (rw made member) in
+    let means : _ = letter o calls .answers (s .before) (Call.report row (s .at)) 0 (s .behind) (s .accepted) in
+    accepted-sound o (s .before) row (s .at) means
+    (range-in h (s .before) (Call.report row (s .at)) 0 (s .behind) (rw made ranges) (s .accepted))

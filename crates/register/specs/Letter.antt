@@ -100,7 +100,7 @@ NoRoom o h source = NotHeld o h source × ((rows : Rows) × AreAll o h rows × (
 
 -- 12, of opening alone: group 0 or 4,294,967,295, or rate outside 1 to 192,000
 abbrev pub BadOpening : Opening → Type 0
-BadOpening o = (o .group ≡ 0) ⊎ (o .group ≡ 4294967295) ⊎ (o .rate < 1) ⊎ (192000 < o .rate)
+BadOpening o = ((o .group ≡ 0) ⊎ (o .group ≡ 4294967295)) ⊎ ((o .rate < 1) ⊎ (192000 < o .rate))
 
 -- ---- the table of refusals
 

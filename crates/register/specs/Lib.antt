@@ -1,5 +1,4 @@
 pub mod Register
 pub mod Choosing
-pub mod Leader
 pub mod Promise
 pub mod Letter

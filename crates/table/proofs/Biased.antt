@@ -16,14 +16,14 @@ use Rattle.register.specs.declared.Reading.{Reading}
 use Rattle.register.specs.declared.Choice.{Choice}
 use Rattle.register.specs.Register.{Rows, keep, presents, freshAt}
 use Rattle.register.specs.Choosing.{lateness, latenessOf, delayOf, precedes, targetOf}
-use Rattle.register.specs.Leader.{leader}
+use Rattle.table.specs.Leader.{leader}
 use Rattle.register.proofs.Order.{ltZ-not-leZ, leZ-subℕ, lateness-subℕ}
 use Rattle.register.proofs.Rows.{keep-yes, keep-no}
 use Rattle.table.specs.Members.{rowsAt, keepWord}
 use Rattle.table.specs.Choose.{atRate, freshWord, presentingWord, arrives, countedWord, led, choiceIn, choiceAmong}
 use Rattle.table.specs.Lateness.{biased, biasedLate}
 use Rattle.table.proofs.Seats.{rows-keepWord}
-use Rattle.table.proofs.Leading.{leader-next}
+use Rattle.table.proofs.Leader.{leader-next}
 
 -- ---- the order of two numbers
 

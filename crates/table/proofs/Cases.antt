@@ -18,7 +18,7 @@ use Rattle.places.specs.Places.{isHeld, lowestFree}
 use Rattle.register.specs.declared.Record.{Record}
 use Rattle.register.specs.declared.Reading.{Reading}
 use Rattle.register.specs.Register.{Opening, Rows, Call, isRefusedOpening, reportChecks, farewellChecks}
-use Rattle.register.proofs.Stands.{accepted-passed}
+use Rattle.register.proofs.Stands.{accepted-room}
 use Rattle.table.proofs.Places.{free-below}
 use Rattle.table.specs.declared.Table.{Table}
 use Rattle.table.specs.declared.Seat.{Seat}
@@ -148,7 +148,7 @@ module _ (t : Table) (x : Record) (at : Reading) where
   pub report-room : numberOf t (Call.report x at) ≡ 0 → isWithoutRoom t (x .source) ≡ false
   unfolding numberOf
   report-room e =
-      accepted-passed (openingOf t) x at (isElsewhere t (x .source) (x .origin)) (isWithoutRoom t (x .source)) e .room
+      accepted-room (openingOf t) x at (isElsewhere t (x .source) (x .origin)) (isWithoutRoom t (x .source)) e
 
 -- a new member that finds room has a place, whose digit can be added
 module _ (t : Table) (source place : ℕ) (e : place ≡ placeIn t source) (room : isWithoutRoom t source ≡ false) where

@@ -15,7 +15,7 @@ use Rattle.register.specs.declared.Reading.{Reading}
 use Rattle.register.specs.declared.Choice.{Choice}
 use Rattle.register.specs.Register.{Rows}
 use Rattle.register.specs.Choosing.{precedes, targetOf}
-use Rattle.register.specs.Leader.{leader}
+use Rattle.table.specs.Leader.{leader}
 use Rattle.table.specs.declared.choose.Late.{Late}
 use Rattle.table.specs.declared.choose.Lead.{Lead}
 use Rattle.places.specs.Places.{isFree}
@@ -23,6 +23,7 @@ use Rattle.table.specs.Members.{rowsAt, nowhere}
 use Rattle.table.specs.Choose.{led}
 use Rattle.table.specs.Lateness.{biased, biasedOf, biasedLate, inTwo, joined}
 use Rattle.table.specs.Lateness.{leadOf, keepsLead, leadNext, ledFrom, IsLeading}
+use Rattle.table.proofs.Leader.{leader-next}
 use Rattle.table.proofs.Words.{rows-free-at, rows-held-at}
 
 -- ---- two words
@@ -140,12 +141,6 @@ keeps-precedes rate at ms a i row stands = go (ltb (a .place) 64) refl
     go false e = rw e refl
 
 -- one row more
-pub leader-next :
-    (late : Record → ℤ) (a b : Record) (rows : Rows) (t : Bool) → precedes late a b ≡ t →
-    leader late a (b ∷ rows) ≡ leader late (cond t a b) rows
-unfolding leader
-leader-next late a b rows t e = ap (λ (s : Bool). leader late (cond s a b) rows) e
-
 ledFrom-keeps :
     (late : Record → ℤ) (n : ℕ) (ms : Rows) (place : ℕ) (row : Record) (rows : Rows) →
     (ltb place 64 && precedes late (getD ms place nowhere) row) ≡ true →

@@ -11,7 +11,7 @@ use Rattle.register.specs.declared.Reading.{Reading}
 use Rattle.register.specs.declared.Choice.{Choice}
 use Rattle.register.specs.Register.{Opening, Rows, presents, freshAt}
 use Rattle.register.specs.Choosing.{latenessOf, targetOf}
-use Rattle.register.specs.Leader.{leader}
+use Rattle.table.specs.Leader.{leader}
 use Rattle.table.specs.declared.Table.{Table}
 use Rattle.table.specs.declared.Chosen.{Chosen}
 use Rattle.table.specs.Members.{rowsAt, keepWord}

@@ -2,14 +2,14 @@
 -- before handed back.
 use Prim.Native.Nat.{ℕ}
 use mathlib.Core.Path.{_≡_}
-use mathlib.Core.Bool.{false}
 use mathlib.Core.List.{List, [], _∷_, List·Memᴰ, List·Permᴰ}
 use lib.ListN.{length}
 use Rattle.register.specs.declared.Record.{Record}
 use Rattle.register.specs.declared.Reading.{Reading}
-use Rattle.register.specs.Register.{Opening, Rows, Call, isRefusedOpening, answers, afterAll}
+use Rattle.register.specs.Register.{Opening, Rows, Call, answers, afterAll}
 use Rattle.register.specs.Choosing.{choice}
 use Rattle.register.specs.Promise.{Unique, AllInRange, Promised}
+use Rattle.register.specs.Letter.{History, history, madeIn, BadOpening, Letter}
 use Rattle.table.specs.declared.Table.{Table}
 use Rattle.table.specs.Members.{openingOf, membersOf, countOf, seatAt}
 use Rattle.table.specs.Calls.{opened, answered}
@@ -25,9 +25,14 @@ unfoldable pub tableFrom : Table → List Call → Table
 tableFrom t [] = t
 tableFrom t (call ∷ calls) = tableFrom (answered t call .table) calls
 
--- this table and these rows are what an opening that is taken and this list of calls leave
+-- x is shown after the calls of a history: the member at some place
+abbrev pub IsShown : Opening → History → Record → Type 0
+IsShown o h x =
+    (place : ℕ) × (seatAt (tableFrom (opened o .table) (madeIn h)) place ≡ record { held = 1; member = x })
+
+-- this table and these rows are what an opening that is not refused with 12 and this list of calls leave
 pub record Reached (o : Opening) (calls : List Call) (t : Table) (rows : Rows) : Type 0 where
-  pub taken : isRefusedOpening o ≡ false
+  pub taken : BadOpening o → ⊥
   pub ranges : AllInRange calls
   pub table-is : t ≡ tableFrom (opened o .table) calls
   pub rows-are : rows ≡ afterAll o [] calls
@@ -50,6 +55,8 @@ pub record Demand3 (o : Opening) (calls : List Call) (t : Table) (rows : Rows) :
   pub opens : opened o .number ≡ 0
   pub numbers : answersFrom (opened o .table) calls ≡ answers o [] calls
   pub agree : Agree o t rows
+  -- the letter's sentences on members, twins and refusals, of the table's own answers and the members that it shows
+  pub letter : Letter o (history calls (answersFrom (opened o .table) calls)) (IsShown o)
   -- choosing gives the register's choice at any reading, and leaves the table as it was
   pub chosen : (at : Reading) → chosenOf t at ≡ record { choice = choice o at rows; table = t }
   -- what the customer is promised of that choice

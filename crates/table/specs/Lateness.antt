@@ -12,7 +12,7 @@ use Rattle.register.specs.declared.Reading.{Reading}
 use Rattle.register.specs.declared.Choice.{Choice}
 use Rattle.register.specs.Register.{Rows}
 use Rattle.register.specs.Choosing.{delayOf, targetOf}
-use Rattle.register.specs.Leader.{leader}
+use Rattle.table.specs.Leader.{leader}
 use Rattle.table.specs.declared.choose.Late.{Late}
 use Rattle.table.specs.declared.choose.Lead.{Lead}
 use Rattle.places.specs.Places.{isFree}

@@ -6,6 +6,7 @@ use mathlib.Core.List.{List, [], _∷_, List·Memᴰ, List·Memᴰ·head, List·
 use mathlib.Core.Logic.{_⊎_, inl, inr, _↔_}
 use mathlib.Core.Path.{_≡_, refl, sym, ap, _∙_}
 use lib.Dec.{ltb, eqb}
+use native.Mathlib.Omega.{arith}
 use borrow.Author.Tests.{eqb-true, eq-eqb, ltb-true, lt-ltb}
 use Rattle.register.specs.Register.{some}
 use Rattle.register.specs.Letter.{Line, MeansFrom}
@@ -22,6 +23,9 @@ tells-equal a b = (eqb-true a b, eq-eqb a b)
 pub tells-less : (a b : ℕ) → Tells (ltb a b) (a < b)
 tells-less a b = (ltb-true a b, lt-ltb a b)
 
+pub tells-none : (n : ℕ) → Tells (eqb n 0) (n < 1)
+tells-none n = (λ e. omega (arith, eqb-true n 0 e), λ less. eq-eqb n 0 (omega (arith, less)))
+
 pub tells-not : {P : Type 0} (t : Bool) → Tells t P → Tells (not t) (P → ⊥)
 tells-not true e = (λ z. clash z, λ none. absurd (none (e .0 refl)))
 tells-not false e = (λ z p. clash (e .1 p), λ none. refl)
@@ -37,6 +41,15 @@ tells-or {P} {Q} false t e f = (λ z. inr (f .0 z), other)
     other : P ⊎ Q → t ≡ true
     other (inl p) = clash (e .1 p)
     other (inr q) = f .1 q
+
+-- what a test tells is stable
+pub stable : {P : Type 0} (t : Bool) → Tells t P → ((P → ⊥) → ⊥) → t ≡ true
+stable true tell h = refl
+stable false tell h = absurd (h (λ p. clash (tell .1 p)))
+
+pub untold : {P : Type 0} (t : Bool) → Tells t P → (P → ⊥) → t ≡ false
+untold true tell h = absurd (h (tell .0 refl))
+untold false tell h = refl
 
 -- some element passes
 pub tells-some :

@@ -1,146 +1,26 @@
--- The letter's sentences hold of the plain register: by induction over the calls, its rows are all that stand, and so each
--- of its tests tells what the table of refusals says.
-use Prim.Native.Nat.{ℕ, _≤_}
-use mathlib.Core.Bool.{Bool, true, false, not, cond, _&&_}
-use mathlib.Core.List.{List, [], _∷_, _++_, append-assoc, append-nil, List·Memᴰ, List·Memᴰ·head, List·Memᴰ·tail, List·Memᴰ·not-nil}
-use mathlib.Core.Logic.{_⊎_, inl, inr, ⊎-elim, _↔_}
+-- The letter's sentences hold of the plain register: by induction over the calls, its rows are all that stand.
+use Prim.Native.Nat.{ℕ}
+use mathlib.Core.Bool.{Bool, true, false, not}
+use mathlib.Core.List.{List, [], _∷_, _++_, append-assoc, append-nil, List·Memᴰ, List·Memᴰ·not-nil}
+use mathlib.Core.Logic.{inl, inr, ⊎-elim, _↔_}
 use mathlib.Core.Path.{_≡_, refl, sym, ap, subst, _∙_}
-use lib.Dec.{eqb, ltb}
-use lib.ListN.{length}
+use lib.Dec.{eqb}
 use native.Mathlib.Omega.{arith}
 use borrow.Author.Tests.{eqb-true, eqb-false, eq-eqb, ne-eqb}
-use Rattle.times.specs.Times.{ntpAge, rtpAge, delay, expanded, isFar, isAged, isBadlyPresented}
-use Rattle.origin.specs.declared.Origin.{Origin}
-use Rattle.origin.specs.Origins.{sameOrigin}
-use Rattle.origin.proofs.Laws.{same-origin-equal, equal-same-origin}
 use Rattle.register.specs.declared.Record.{Record}
 use Rattle.register.specs.declared.Reading.{Reading}
-use Rattle.register.specs.Register.{Opening, Rows, Call, isRefusedOpening, keep, some, presents, hasNumber, isHeldElsewhere, isOtherStream, reportChecks, hasNoRoom, farewellChecks, answer, freshAt, accepted, after, answers, afterAll}
-use Rattle.register.specs.Promise.{Unique}
-use Rattle.register.specs.Letter.{Event, got, History, history, madeIn, Each, OtherStream, Fresh, BadOpening, Ends, Stands, AreAll, HeldElsewhere, NotHeld, NoRoom, openingLines, linesOf, MeansFrom, Means, IsTwins, TwinGets, Letter}
+use Rattle.register.specs.Register.{Opening, Rows, Call, keep, hasNumber, isOtherStream, answer, freshAt, accepted, after, answers, afterAll}
+use Rattle.register.specs.Letter.{got, History, history, madeIn, Each, OtherStream, Ends, Stands, AreAll, HeldElsewhere, linesOf, MeansFrom, Means, IsTwins, TwinGets, Letter}
 use Rattle.register.proofs.History.{rows-append}
-use Rattle.register.proofs.Rows.{clash, kept-member, member-kept, length-keep-<}
-use Rattle.register.proofs.Permuted.{unique-rest, unique-after}
-use Rattle.register.proofs.Letter.Lines.{Tells, tells-equal, tells-less, tells-not, tells-and, tells-or, tells-some, first-means}
-use Rattle.register.proofs.Letter.Members.{no-cons, each-none, each-more, StandsAfter, stands-more, alone, OwnOrOther, member-renewed}
+use Rattle.register.proofs.Rows.{clash, kept-member, member-kept}
+use Rattle.register.proofs.Permuted.{unique-after}
+use Rattle.register.proofs.Letter.Lines.{Tells, tells-equal, tells-not, stable}
+use Rattle.register.proofs.Letter.Members.{no-cons, each-none, each-more, StandsAfter, stands-more, OwnOrOther, member-renewed}
+use Rattle.register.proofs.Letter.Tests.{tells-other-stream, tells-fresh, answer-means}
 
--- ---- what the tests on a report's own fields tell
-
-tells-other-stream : (o : Opening) (x : Record) → Tells (isOtherStream o (x .report .group) (x .report .media)) (OtherStream o x)
-tells-other-stream o x =
-    tells-not _
-    (tells-and _ _ (tells-equal (x .report .group) (o .group)) (tells-equal (x .report .media) (o .media)))
-
-tells-fresh : (o : Opening) (at : Reading) (x : Record) → Tells (freshAt o at x) (Fresh o at x)
-tells-fresh o at x = tells-and _ _ (tells-not _ (tells-less _ _)) (tells-not _ (tells-less _ _))
-
-tells-origin : (a b : Origin) → Tells (sameOrigin a b) (a ≡ b)
-tells-origin a b = (same-origin-equal a b, λ e. rw e (equal-same-origin b))
-
--- what cannot fail holds, where a test tells
-stable : {P : Type 0} (t : Bool) → Tells t P → ((P → ⊥) → ⊥) → t ≡ true
-stable true tell h = refl
-stable false tell h = absurd (h (λ p. clash (tell .1 p)))
-
--- ---- how many stand
-
--- rows of distinct numbers that all lie among others are no more than these
-length-within : (xs ys : Rows) → Unique xs → ((x : Record) → List·Memᴰ x xs → List·Memᴰ x ys) → length xs ≤ length ys
-length-within [] ys u within = omega arith
-length-within (x ∷ xs) ys u within =
-    let other : Record → Bool = λ r. not (hasNumber (x .source) r) in
-    let own : other x ≡ false = ap not (eq-eqb (x .source) (x .source) refl) in
-    let fewer : _ = length-keep-< other x ys own (within x (List·Memᴰ·head refl)) in
-    let rest : _ =
-    length-within xs (keep other ys) (unique-rest x xs u)
-    (λ y m.
-    member-kept other y ys
-    (ap not (ne-eqb (y .source) (x .source) (alone x y xs u m)))
-    (within y (List·Memᴰ·tail m))) in
-    omega (arith, fewer, rest)
-
-same-length : (o : Opening) (h : History) (xs ys : Rows) → AreAll o h xs → AreAll o h ys → length xs ≡ length ys
-same-length o h xs ys a b =
-    omega (
-      arith,
-      length-within xs ys (a .unique) (λ x m. b .each x .1 (a .each x .0 m)),
-      length-within ys xs (b .unique) (λ x m. a .each x .1 (b .each x .0 m)),
-    )
-
--- ---- from rows that are all that stand
+-- ---- the rows that a call leaves
 
 module _ (o : Opening) (h : History) (rows : Rows) (all : AreAll o h rows) where
-  tells-held : (source : ℕ) → Tells (some (hasNumber source) rows) ((x : Record) × Stands o h x × (x .source ≡ source))
-  tells-held source = (
-    λ e. let found : _ = tells-some (hasNumber source) rows .0 e in
-        (found .0, all .each (found .0) .0 (found .1), eqb-true (found .0 .source) source (found .2)),
-    λ found.
-        tells-some (hasNumber source) rows .1
-        (found .0, all .each (found .0) .1 (found .1), eq-eqb (found .0 .source) source (found .2)),
-  )
-
-  tells-not-held : (source : ℕ) → Tells (not (some (hasNumber source) rows)) (NotHeld o h source)
-  tells-not-held source =
-      let none : _ = tells-not _ (tells-held source) in
-      (λ e x s f. none .0 e (x, s, f), λ free. none .1 (λ found. free (found .0) (found .1) (found .2)))
-
-  tells-elsewhere : (source : ℕ) (origin : Origin) → Tells (isHeldElsewhere rows source origin) (HeldElsewhere o h source origin)
-  tells-elsewhere source origin = (
-    λ e. let found : _ = tells-some there rows .0 e in
-        let both : _ = own (found .0) .0 (found .2) in
-        (found .0, all .each (found .0) .0 (found .1), both .0, both .1),
-    λ found.
-        tells-some there rows .1 (found .0, all .each (found .0) .1 (found .1), own (found .0) .1 (found .2, found .3)),
-  )
-    where
-      there : Record → Bool
-      there row = hasNumber source row && not (sameOrigin (row .origin) origin)
-
-      own : (x : Record) → Tells (hasNumber source x && not (sameOrigin (x .origin) origin)) ((x .source ≡ source) × (x .origin ≡ origin → ⊥))
-      own x = tells-and _ _ (tells-equal (x .source) source) (tells-not _ (tells-origin (x .origin) origin))
-
-  tells-no-room : (source : ℕ) → Tells (hasNoRoom rows source) (NoRoom o h source)
-  tells-no-room source =
-      tells-and _ _ (tells-not-held source) (
-        λ e. (rows, all, eqb-true (length rows) 64 e),
-        λ full. eq-eqb (length rows) 64 (same-length o h rows (full .0) all (full .1) ∙ full .2),
-      )
-
-  -- every answer means what the table of refusals says
-  answer-means : (call : Call) → Means (linesOf o h call) (answer o rows call)
-  unfolding answer reportChecks farewellChecks linesOf MeansFrom
-  answer-means (Call.report x at) =
-      first-means Unit tt (linesOf o h (Call.report x at))
-      (isOtherStream o (x .report .group) (x .report .media)
-      ∷ isHeldElsewhere rows (x .source) (x .origin)
-      ∷ isFar (at .ntp) (x .report .received)
-      ∷ isAged (o .rate) (at .rtp) (x .report .rtp)
-      ∷ (presents x && isBadlyPresented (x .report .received) (x .report .presented))
-      ∷ hasNoRoom rows (x .source)
-      ∷ []) (
-        tells-other-stream o x,
-        (
-          tells-elsewhere (x .source) (x .origin),
-          (
-            tells-less _ _,
-            (
-              tells-less _ _,
-              (
-                tells-and _ _ (tells-not _ (tells-equal _ _)) (tells-or _ _ (tells-less _ _) (tells-equal _ _)),
-                (tells-no-room (x .source), tt),
-              ),
-            ),
-          ),
-        ),
-      )
-      refl
-  answer-means (Call.farewell source origin) =
-      first-means Unit tt (linesOf o h (Call.farewell source origin))
-      (not (some (hasNumber source) rows) ∷ isHeldElsewhere rows source origin ∷ [])
-      (tells-not-held source, (tells-elsewhere source origin, tt))
-      refl
-  answer-means (Call.sweep at) = (λ e. tt, λ none. refl)
-
   -- an accepted call leaves the rows that then stand
   accepted-stand : (call : Call) (y : Record) → List·Memᴰ y (accepted o rows call) ↔ StandsAfter o h (got call 0) y
   accepted-stand (Call.report x at) y =
@@ -333,6 +213,12 @@ told-none o =
       rows-are = refl;
     }
 
+-- each call got an answer
+pub made-of : (o : Opening) (rows : Rows) (calls : List Call) → madeIn (history calls (answers o rows calls)) ≡ calls
+unfolding madeIn history answers
+made-of o rows [] = refl
+made-of o rows (call ∷ calls) = ap (λ (more : List Call). call ∷ more) (made-of o (after o rows call) calls)
+
 -- Whatever the calls, the letter's sentences hold of the register's answers and rows.
 pub letter : (o : Opening) (calls : List Call) → Letter o (history calls (answers o [] calls)) (IsRow o)
 letter o calls =
@@ -341,4 +227,17 @@ letter o calls =
       stands = λ x. rw (← run .0 .rows-are) at (run .0 .all .each x);
       twins = λ before call number behind e. run .1 before call number behind e .0;
       answers = λ before call number behind e. run .1 before call number behind e .1;
+    }
+
+-- ... and of whoever shows the same members.
+pub letter-shown :
+    (o : Opening) (h : History) (Shown Other : History → Record → Type 0) →
+    ((g : History) (x : Record) → Shown g x ↔ Other g x) → Letter o h Shown → Letter o h Other
+letter-shown o h Shown Other same l =
+    record {
+      stands = λ x. (λ m. l .stands x .0 (same h x .1 m), λ s. same h x .0 (l .stands x .1 s));
+      twins = λ before call number behind e x shown twin.
+          let gets : _ = l .twins before call number behind e x (same before x .1 shown) twin in
+          (gets .0, same (before ++ (got call number ∷ [])) x .0 (gets .1));
+      answers = l .answers;
     }

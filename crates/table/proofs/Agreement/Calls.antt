@@ -15,7 +15,7 @@ use Rattle.register.specs.declared.Record.{Record}
 use Rattle.register.specs.Register.{Opening, Rows, Call, keep, some, hasNumber, isHeldElsewhere, hasNoRoom, renewed, farewellChecks, freshAt, answer, accepted, after}
 use Rattle.register.specs.Promise.{Unique}
 use Rattle.register.proofs.Rows.{some-permuted, keep-permuted, length-permuted, some-keep, some-and-none}
-use Rattle.register.proofs.Stands.{accepted-passed}
+use Rattle.register.proofs.Stands.{accepted-room}
 use Rattle.register.proofs.Permuted.{unique-permuted, unique-after, without-own, elsewhere-own, renewed-form}
 use Rattle.table.specs.declared.Table.{Table}
 use Rattle.table.specs.Members.{openingOf, nowhere, rowsAt, membersOf, placeIn}
@@ -212,12 +212,12 @@ accepted-holds :
     Unique (accepted o rows call) → Holds o (acceptedBy t call) (accepted o rows call)
 unfolding numberOf farewellChecks
 accepted-holds o t rows h (Call.report x at) e unique =
-    let passed : _ =
-    accepted-passed (openingOf t) x at (isElsewhere t (x .source) (x .origin)) (isWithoutRoom t (x .source)) e in
+    let room : isWithoutRoom t (x .source) ≡ false =
+    accepted-room (openingOf t) x at (isElsewhere t (x .source) (x .origin)) (isWithoutRoom t (x .source)) e in
     record {
       opening = filed-opening t x ∙ h .opening;
       long = filed-length t x ∙ h .long;
-      same = filed-rows o t rows h x (passed .room);
+      same = filed-rows o t rows h x room;
       unique = unique;
     }
 accepted-holds o t rows h (Call.farewell source origin) e unique =

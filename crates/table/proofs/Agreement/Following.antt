@@ -15,10 +15,11 @@ use Rattle.register.specs.declared.Reading.{Reading}
 use Rattle.register.specs.Register.{Opening, Rows, some, presents, freshAt}
 use Rattle.register.specs.Choosing.{isArrival, counted, latenessOf, choice}
 use Rattle.register.proofs.Rows.{keep-both, some-both}
-use Rattle.register.proofs.Promised.{choice-none, choice-leading}
+use Rattle.register.proofs.Promised.{choice-none, choice-of}
 use Rattle.table.specs.declared.Table.{Table}
 use Rattle.table.specs.Members.{openingOf, rowsAt, membersOf, digit, keepWord}
 use Rattle.table.specs.Choose.{arrives, countedWord, led, choiceAmong, choiceOf}
+use Rattle.table.proofs.Leader.{leader-chosen}
 use Rattle.table.proofs.Seats.{rows-free, rows-held, rows-keepWord, ones-of-rows}
 
 -- ---- the counted word
@@ -76,7 +77,8 @@ choice-led :
     led (latenessOf o at) (length those) those ≡ choice o at rows
 unfolding led
 choice-led o at rows [] e = sym (choice-none o at rows e)
-choice-led o at rows (a ∷ rest) e = sym (choice-leading o at rows a rest e)
+choice-led o at rows (a ∷ rest) e =
+    sym (choice-of o at rows (a ∷ rest) e ∙ leader-chosen (latenessOf o at) (length (a ∷ rest)) a rest)
 
 pub choice-of-members :
     (t : Table) (at : Reading) → length (t .members) ≡ 64 → choiceOf t at ≡ choice (openingOf t) at (membersOf t)

@@ -3,6 +3,7 @@
 use Prim.Native.Nat.{ℕ, _<_}
 use mathlib.Core.Bool.{Bool, true, false, _&&_, and-eq-true-iff}
 use mathlib.Core.List.{List, [], _∷_, _++_, List·Memᴰ, Permᴰ·refl, Permᴰ·symm}
+use mathlib.Core.Logic.{_↔_}
 use mathlib.Core.Path.{_≡_, refl, sym, ap, _∙_}
 use lib.Dec.{ltb}
 use lib.ListN.{length, length-replicate}
@@ -15,15 +16,20 @@ use Rattle.register.specs.declared.Choice.{Choice}
 use Rattle.register.specs.Register.{Opening, Rows, Call, isRefusedOpening, keep, answer, after, answers, afterAll}
 use Rattle.register.specs.Choosing.{choice}
 use Rattle.register.specs.Promise.{AllInRange}
+use Rattle.register.specs.Letter.{History, history, madeIn, BadOpening, openingLines, Means}
 use Rattle.register.proofs.Rows.{member-permuted}
 use Rattle.register.proofs.Permuted.{unique-permuted, choice-permuted}
-use Rattle.register.proofs.Stands.{Sound, sound-none, sound-after}
+use Rattle.register.proofs.Stands.{Sound, sound-rows}
+use Rattle.register.proofs.Letter.Lines.{untold}
+use Rattle.register.proofs.Letter.Tests.{tells-bad-opening, opening-means}
+use Rattle.register.proofs.Letter.Theorem.{IsRow, letter, letter-shown}
 use Rattle.register.proofs.Promised.{choice-promised}
 use Rattle.table.specs.declared.Table.{Table}
+use Rattle.table.specs.declared.Seat.{Seat}
 use Rattle.table.specs.Members.{membersOf, countOf, seatAt, vacant, emptyTable}
 use Rattle.table.specs.Calls.{opened, answered}
 use Rattle.table.specs.Choose.{choiceOf}
-use Rattle.table.specs.History.{answersFrom, tableFrom, Agree, Reached, Demand3}
+use Rattle.table.specs.History.{answersFrom, tableFrom, IsShown, Agree, Reached, Demand3}
 use Rattle.table.proofs.Seats.{rows-none, member-at-place, place-of-member}
 use Rattle.table.proofs.Agreement.Calls.{Holds, rows-count, number-same, answered-holds}
 use Rattle.table.proofs.Agreement.Following.{choice-of-members}
@@ -40,9 +46,18 @@ empty-holds o =
       unique = λ source. omega arith;
     }
 
-opened-taken : (o : Opening) → isRefusedOpening o ≡ false → (opened o .number ≡ 0) × Holds o (opened o .table) []
+opened-taken : (o : Opening) → (BadOpening o → ⊥) → (opened o .number ≡ 0) × Holds o (opened o .table) []
 unfolding opened
-opened-taken o e = rw e (refl, empty-holds o)
+opened-taken o taken = rw (untold (isRefusedOpening o) (tells-bad-opening o) taken) (refl, empty-holds o)
+
+-- Of every opening: the answer means what the table of refusals says of 12.
+pub opening-answered : (o : Opening) → Means (openingLines o) (opened o .number)
+unfolding opened
+opening-answered o = go (isRefusedOpening o) refl
+  where
+    go : (t : Bool) → isRefusedOpening o ≡ t → Means (openingLines o) (opened o .number)
+    go true e = rw e (rw e at (opening-means o))
+    go false e = rw e (rw e at (opening-means o))
 
 -- ---- any list of calls
 
@@ -50,24 +65,22 @@ opened-taken o e = rw e (refl, empty-holds o)
 record Followed (o : Opening) (t : Table) (rows : Rows) (calls : List Call) : Type 0 where
   answers-same : answersFrom t calls ≡ answers o rows calls
   holds : Holds o (tableFrom t calls) (afterAll o rows calls)
-  sound : Sound o (afterAll o rows calls)
 
-followed :
-    (o : Opening) (t : Table) (rows : Rows) (calls : List Call) → Holds o t rows → Sound o rows → AllInRange calls →
-    Followed o t rows calls
-unfolding answersFrom tableFrom answers afterAll AllInRange answered
-followed o t rows [] h sound ranges = record { answers-same = refl; holds = h; sound = sound }
-followed o t rows (call ∷ calls) h sound ranges =
-    let next : _ =
-    followed o (answered t call .table) (after o rows call) calls (answered-holds o t rows h call)
-    (sound-after o rows call (ranges .0) sound) (ranges .1) in
+followed : (o : Opening) (t : Table) (rows : Rows) (calls : List Call) → Holds o t rows → Followed o t rows calls
+unfolding answersFrom tableFrom answers afterAll answered
+followed o t rows [] h = record { answers-same = refl; holds = h }
+followed o t rows (call ∷ calls) h =
+    let next : _ = followed o (answered t call .table) (after o rows call) calls (answered-holds o t rows h call) in
     record {
       answers-same =
           ap (λ (n : ℕ). n ∷ answersFrom (answered t call .table) calls) (number-same o t rows h call)
           ∙ ap (λ (ns : List ℕ). answer o rows call ∷ ns) (next .answers-same);
       holds = next .holds;
-      sound = next .sound;
     }
+
+-- from the table that opening returned
+from-opened : (o : Opening) → (BadOpening o → ⊥) → (calls : List Call) → Followed o (opened o .table) [] calls
+from-opened o taken calls = followed o (opened o .table) [] calls (opened-taken o taken .1)
 
 -- ---- choosing
 
@@ -117,27 +130,49 @@ agreed o t rows h sound =
       seated = row-seat o t rows h;
     }
 
+-- ---- the letter's sentences
+
+-- the table shows the register's rows
+shown-row : (o : Opening) → (BadOpening o → ⊥) → (h : History) (x : Record) → IsRow o h x ↔ IsShown o h x
+shown-row o taken h x = (row-seat o t rows holds x, shown)
+  where
+    t : Table
+    t = tableFrom (opened o .table) (madeIn h)
+
+    rows : Rows
+    rows = afterAll o [] (madeIn h)
+
+    holds : Holds o (tableFrom (opened o .table) (madeIn h)) (afterAll o [] (madeIn h))
+    holds = from-opened o taken (madeIn h) .holds
+
+    shown : IsShown o h x → IsRow o h x
+    shown at =
+        let held : _ = ap (λ (s : Seat). s .held) (at .1) in
+        rw (ap (λ (s : Seat). s .member) (at .1)) at (seat-row o t rows holds (at .0) held)
+
 -- ---- demand 3
 
 pub demand3 :
     (o : Opening) (calls : List Call) (t : Table) (rows : Rows) → Reached o calls t rows → Demand3 o calls t rows
 demand3 o calls t rows reached =
-    let start : _ = opened-taken o (reached .taken) in
-    let run : Followed o (opened o .table) [] calls =
-    followed o (opened o .table) [] calls (start .1) (sound-none o) (reached .ranges) in
+    let run : Followed o (opened o .table) [] calls = from-opened o (reached .taken) calls in
     let holds : Holds o t rows = rw (reached .table-is, reached .rows-are) (run .holds) in
-    let sound : Sound o rows = rw (reached .rows-are) (run .sound) in
+    let sound : Sound o rows = rw (reached .rows-are) (sound-rows o calls (reached .ranges)) in
     record {
-      opens = start .0;
+      opens = opened-taken o (reached .taken) .0;
       numbers = run .answers-same;
       agree = agreed o t rows holds sound;
+      letter =
+          rw (run .answers-same)
+          (letter-shown o (history calls (answers o [] calls)) (IsRow o) (IsShown o) (shown-row o (reached .taken))
+          (letter o calls));
       chosen = λ at. ap (λ (c : Choice). record { choice = c; table = t }) (chosen-same o t rows holds at);
       promised = λ at. rw (chosen-same o t rows holds at) (choice-promised o at rows sound);
     }
 
 -- every opening that is taken and every list of calls in range reach a table and rows
 pub reached :
-    (o : Opening) (calls : List Call) → isRefusedOpening o ≡ false → AllInRange calls →
+    (o : Opening) (calls : List Call) → (BadOpening o → ⊥) → AllInRange calls →
     Reached o calls (tableFrom (opened o .table) calls) (afterAll o [] calls)
 reached o calls taken ranges = record { taken = taken; ranges = ranges; table-is = refl; rows-are = refl }
 

@@ -2,17 +2,16 @@
 -- first of those.
 use Prim.Native.Nat.{ℕ}
 use mathlib.Core.Bool.{Bool, true, false, cond, _&&_, and-eq-true-iff, false≢true, and-false}
-use mathlib.Core.List.{[], _∷_, List·Memᴰ, List·Memᴰ·head, List·Memᴰ·tail, List·Memᴰ·eq-of-singleton}
+use mathlib.Core.List.{[], _∷_}
 use mathlib.Core.Path.{_≡_, refl, sym, ap, _∙_}
 use lib.IntN.{ℤ}
-use lib.Signed.{_≤ℤ_, ≤ℤ-refl}
 use Rattle.register.specs.declared.Record.{Record}
 use Rattle.register.specs.declared.Choice.{Choice}
 use Rattle.register.specs.Register.{Rows, keep}
 use Rattle.register.specs.Choosing.{precedes, precedesAll, firstOf, targetOf}
-use Rattle.register.specs.Leader.{leader}
+use Rattle.table.specs.Leader.{leader}
 use Rattle.register.proofs.Rows.{keep-no, keep-cong}
-use Rattle.register.proofs.Order.{≤ℤ-trans, precedes-true, precedes-refl, precedes-trans, precedes-total}
+use Rattle.register.proofs.Order.{precedes-refl, precedes-trans, precedes-total, precedesAll-trans}
 
 -- ---- tests that agree
 
@@ -43,15 +42,6 @@ unfolding precedesAll
 precedesAll-drop late a b rows e row =
     implied-and (precedes late row a) (precedes late row b) (precedesAll late row rows)
     (λ h. precedes-trans late row b a h e)
-
-precedesAll-trans :
-    (late : Record → ℤ) (a b : Record) (rows : Rows) → precedes late a b ≡ true → precedesAll late b rows ≡ true →
-    precedesAll late a rows ≡ true
-unfolding precedesAll
-precedesAll-trans late a b [] e h = refl
-precedesAll-trans late a b (row ∷ rows) e h =
-    let both : _ = and-eq-true-iff (precedes late b row) (precedesAll late b rows) .0 h in
-    rw (precedes-trans late a b row e (both .0), precedesAll-trans late a b rows e (both .1)) refl
 
 -- ---- the first of them
 
@@ -105,7 +95,7 @@ first-of-preceding late n a b rows e =
 
 -- ---- leader
 
-leader-next :
+pub leader-next :
     (late : Record → ℤ) (a b : Record) (rows : Rows) (t : Bool) → precedes late a b ≡ t →
     leader late a (b ∷ rows) ≡ leader late (cond t a b) rows
 unfolding leader
@@ -131,61 +121,3 @@ unfolding leader
 leader-chosen late n a [] = first-of-one late n a
 leader-chosen late n a (b ∷ rows) =
     chosen-step late n a b rows (λ c. leader-chosen late n c rows)
-
--- ---- the leading row is one of the rows, and of greatest lateness
-
-member-step :
-    (late : Record → ℤ) (a b : Record) (rows : Rows) →
-    ((c : Record) → List·Memᴰ (leader late c rows) (c ∷ rows)) →
-    List·Memᴰ (leader late a (b ∷ rows)) (a ∷ b ∷ rows)
-member-step late a b rows rest = go (precedes late a b) refl
-  where
-    behind : List·Memᴰ (leader late a rows) (a ∷ rows) → List·Memᴰ (leader late a rows) (a ∷ b ∷ rows)
-    behind (List·Memᴰ·head e) = List·Memᴰ·head e
-    behind (List·Memᴰ·tail m) = List·Memᴰ·tail (List·Memᴰ·tail m)
-
-    go : (t : Bool) → precedes late a b ≡ t → List·Memᴰ (leader late a (b ∷ rows)) (a ∷ b ∷ rows)
-    go true e = rw (leader-next late a b rows true e) (behind (rest a))
-    go false e = rw (leader-next late a b rows false e) (List·Memᴰ·tail (rest b))
-
-pub leader-member : (late : Record → ℤ) (a : Record) (rows : Rows) → List·Memᴰ (leader late a rows) (a ∷ rows)
-unfolding leader
-leader-member late a [] = List·Memᴰ·head refl
-leader-member late a (b ∷ rows) = member-step late a b rows (λ c. leader-member late c rows)
-
--- no member is later
-abbrev Greatest : (Record → ℤ) → Rows → Record → Type 0
-Greatest late rows x = (row : Record) → List·Memᴰ row rows → late row ≤ℤ late x
-
-greatest-by :
-    (late : Record → ℤ) (a b c : Record) (rows : Rows) (x : Record) → late a ≤ℤ late c → late b ≤ℤ late c →
-    Greatest late (c ∷ rows) x →
-    Greatest late (a ∷ b ∷ rows) x
-greatest-by late a b c rows x ac bc rest row m = go m
-  where
-    go : List·Memᴰ row (a ∷ b ∷ rows) → late row ≤ℤ late x
-    go (List·Memᴰ·head e) = rw e (≤ℤ-trans ac (rest c (List·Memᴰ·head refl)))
-    go (List·Memᴰ·tail (List·Memᴰ·head e)) = rw e (≤ℤ-trans bc (rest c (List·Memᴰ·head refl)))
-    go (List·Memᴰ·tail (List·Memᴰ·tail m)) = rest row (List·Memᴰ·tail m)
-
-greatest-step :
-    (late : Record → ℤ) (a b : Record) (rows : Rows) →
-    ((c : Record) → Greatest late (c ∷ rows) (leader late c rows)) →
-    Greatest late (a ∷ b ∷ rows) (leader late a (b ∷ rows))
-greatest-step late a b rows rest = go (precedes late a b) refl
-  where
-    go : (t : Bool) → precedes late a b ≡ t → Greatest late (a ∷ b ∷ rows) (leader late a (b ∷ rows))
-    go true e =
-        rw (leader-next late a b rows true e)
-        (greatest-by late a b a rows (leader late a rows) (≤ℤ-refl (late a)) (precedes-true late a b e .0) (rest a))
-    go false e =
-        rw (leader-next late a b rows false e)
-        (greatest-by late a b b rows (leader late b rows) (precedes-true late b a (precedes-total late a b e) .0)
-        (≤ℤ-refl (late b)) (rest b))
-
-pub leader-greatest :
-    (late : Record → ℤ) (a : Record) (rows : Rows) (row : Record) → List·Memᴰ row (a ∷ rows) →
-    late row ≤ℤ late (leader late a rows)
-unfolding leader
-leader-greatest late a [] row m = rw (List·Memᴰ·eq-of-singleton m) (≤ℤ-refl (late a))
-leader-greatest late a (b ∷ rows) row m = greatest-step late a b rows (λ c. leader-greatest late c rows) row m
