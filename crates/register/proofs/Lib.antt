@@ -2,6 +2,7 @@ pub mod Letter
 pub mod Rows
 pub mod History
 pub mod Order
+pub mod Unique
 pub mod Permuted
 pub mod Stands
 pub mod Promised

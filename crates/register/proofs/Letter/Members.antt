@@ -14,7 +14,7 @@ use Rattle.register.specs.Register.{Opening, Rows, Call, keep, some, has
 use Rattle.register.specs.Promise.{Unique}
 use Rattle.register.specs.Letter.{Event, got, History, Each, Ends, Stands}
 use Rattle.register.proofs.Rows.{clash}
-use Rattle.register.proofs.Permuted.{unique-rest, unique-tail}
+use Rattle.register.proofs.Unique.{unique-rest, unique-tail}
 use Rattle.register.proofs.Letter.Lines.{tells-some}
 
 -- ---- a history with one event more

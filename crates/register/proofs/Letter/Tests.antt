@@ -17,7 +17,7 @@ use Rattle.register.specs.Register.{Opening, Rows, Call, isRefusedOpenin
 use Rattle.register.specs.Promise.{Unique}
 use Rattle.register.specs.Letter.{History, OtherStream, Fresh, BadOpening, BadlyPresented, Stands, AreAll, HeldElsewhere, NotHeld, NoRoom, openingLines, linesOf, MeansFrom, Means}
 use Rattle.register.proofs.Rows.{member-kept, length-keep-<}
-use Rattle.register.proofs.Permuted.{unique-rest}
+use Rattle.register.proofs.Unique.{unique-rest}
 use Rattle.register.proofs.Letter.Lines.{Tells, tells-equal, tells-less, tells-none, tells-not, tells-and, tells-or, tells-some, stable, first-means}
 use Rattle.register.proofs.Letter.Members.{alone}
 

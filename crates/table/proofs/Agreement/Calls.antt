@@ -16,7 +16,8 @@ use Rattle.register.specs.Register.{Opening, Rows, Call, keep, some, hasNumber,
 use Rattle.register.specs.Promise.{Unique}
 use Rattle.register.proofs.Rows.{some-permuted, keep-permuted, length-permuted, some-keep, some-and-none}
 use Rattle.register.proofs.Stands.{accepted-room}
-use Rattle.register.proofs.Permuted.{unique-permuted, unique-after, without-own, elsewhere-own, renewed-form}
+use Rattle.register.proofs.Unique.{unique-permuted, without-own, elsewhere-own}
+use Rattle.register.proofs.Permuted.{unique-after, renewed-form}
 use Rattle.table.specs.declared.Table.{Table}
 use Rattle.table.specs.Members.{openingOf, nowhere, rowsAt, membersOf, placeIn}
 use Rattle.table.specs.Calls.{isMember, isElsewhere, isWithoutRoom, numberOf, filed, acceptedBy, answered}

@@ -18,7 +18,8 @@ use Rattle.register.specs.Choosing.{choice}
 use Rattle.register.specs.Promise.{AllInRange}
 use Rattle.register.specs.Letter.{History, history, madeIn, BadOpening, openingLines, Means}
 use Rattle.register.proofs.Rows.{member-permuted}
-use Rattle.register.proofs.Permuted.{unique-permuted, choice-permuted}
+use Rattle.register.proofs.Unique.{unique-permuted}
+use Rattle.register.proofs.Permuted.{choice-permuted}
 use Rattle.register.proofs.Stands.{Sound, sound-rows}
 use Rattle.register.proofs.Letter.Lines.{untold}
 use Rattle.register.proofs.Letter.Tests.{tells-bad-opening, opening-means}
