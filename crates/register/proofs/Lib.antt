@@ -4,4 +4,5 @@ pub mod Permuted
 pub mod Leading
 pub mod Stands
 pub mod Promised
+pub mod History
 pub mod Vectors

@@ -16,6 +16,7 @@ use Rattle.register.specs.Register.{Opening, Rows, Call, isRefusedOpening, keep
 use Rattle.register.specs.Choosing.{choice}
 use Rattle.register.specs.Promise.{AllInRange}
 use Rattle.register.proofs.Rows.{member-permuted}
+use Rattle.register.proofs.History.{rows-append, ranges-append}
 use Rattle.register.proofs.Permuted.{unique-permuted, choice-permuted}
 use Rattle.register.proofs.Stands.{Sound, sound-none, sound-after}
 use Rattle.register.proofs.Promised.{choice-promised}
@@ -148,18 +149,6 @@ unfolding tableFrom
 table-append t [] more = refl
 table-append t (call ∷ calls) more = table-append (answered t call .table) calls more
 
-rows-append :
-    (o : Opening) (rows : Rows) (calls more : List Call) →
-    afterAll o rows (calls ++ more) ≡ afterAll o (afterAll o rows calls) more
-unfolding afterAll
-rows-append o rows [] more = refl
-rows-append o rows (call ∷ calls) more = rows-append o (after o rows call) calls more
-
-ranges-append : (calls more : List Call) → AllInRange calls → AllInRange more → AllInRange (calls ++ more)
-unfolding AllInRange
-ranges-append [] more first second = second
-ranges-append (call ∷ calls) more first second = (first .0, ranges-append calls more (first .1) second)
-
 -- what is reached is reached further by more calls, one by one or in a datagram
 pub reached-further :
     (o : Opening) (calls : List Call) (t : Table) (rows : Rows) (more : List Call) → Reached o calls t rows →
@@ -172,3 +161,15 @@ reached-further o calls t rows more here ranges =
           ap (λ (u : Table). tableFrom u more) (here .table-is) ∙ sym (table-append (opened o .table) calls more);
       rows-are = ap (λ (rs : Rows). afterAll o rs more) (here .rows-are) ∙ sym (rows-append o [] calls more);
     }
+
+-- and these calls are answered as the register answers them
+pub reached-answers :
+    (o : Opening) (calls : List Call) (t : Table) (rows : Rows) (more : List Call) → Reached o calls t rows →
+    AllInRange more → answersFrom t more ≡ answers o rows more
+reached-answers o calls t rows more here ranges =
+    let start : _ = opened-taken o (here .taken) in
+    let run : Followed o (opened o .table) [] calls =
+    followed o (opened o .table) [] calls (start .1) (sound-none o) (here .ranges) in
+    let further : Followed o (tableFrom (opened o .table) calls) (afterAll o [] calls) more =
+    followed o (tableFrom (opened o .table) calls) (afterAll o [] calls) more (run .holds) (run .sound) ranges in
+    rw (here .table-is, here .rows-are) (further .answers-same)
