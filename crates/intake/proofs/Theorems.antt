@@ -71,8 +71,9 @@ calls-in-range :
     → AllInRange (callsIn origin at items)
 unfolding callsIn AllInRange
 calls-in-range d origin at h none = tt
-calls-in-range d origin at h (also x xs) =
-    ranges-append _ _ (item-in-range d origin at h x) (calls-in-range d origin at h xs)
+calls-in-range d origin at h (also {x} {l} here rest) =
+    ranges-append (callsOf origin at (x .item)) (callsIn origin at l) (item-in-range d origin at h here)
+    (calls-in-range d origin at h rest)
 
 module _ (o : Opening) (calls : List Call) (t : Table) (rows : Rows) (here : Reached o calls t rows) where
   -- Taken in, a datagram of bytes leaves a table that its calls, one by one, leave, or the table that was there.

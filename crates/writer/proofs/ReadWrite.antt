@@ -1,6 +1,6 @@
 -- Demand 2, second half: what was read writes back as the datagram's own bytes, once reserved bits, padding and an unused
--- presented time are cleared. Each item is read from a block or packet (rtcp, Laws/ItemPlaces), and word by word its fields
--- spell the bytes that were there (Laws/Words).
+-- presented time are cleared. Each item is read from a block or packet (rtcp's Laws/ItemPlaces), and word by word its
+-- fields spell the bytes that were there (Laws/Words).
 use Prim.Native.Nat.{ℕ, _+_, _*_, _/_, _%_, _^_, _≤_, _<_}
 use mathlib.Core.Path.{_≡_, refl, sym, ap, ap₂, _∙_}
 use mathlib.Core.List.{List, [], _∷_, _++_}

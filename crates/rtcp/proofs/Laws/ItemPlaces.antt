@@ -33,7 +33,7 @@ all-append : (P : Placed → Type 0) {l m : List Placed} → All P l → All P m
 all-append P none b = b
 all-append P (also p a) b = also p (all-append P a b)
 
-pub all-at : (P : Placed → Type 0) (l : List Placed) (i : ℕ) (d : Placed) → All P l → i < length l → P (getD l i d)
+all-at : (P : Placed → Type 0) (l : List Placed) (i : ℕ) (d : Placed) → All P l → i < length l → P (getD l i d)
 all-at P [] i d a h = absurd (omega arith)
 all-at P (x ∷ l) zero d (also p a) h = p
 all-at P (x ∷ l) (suc i) d (also p a) h = all-at P l i d a (omega arith)
@@ -51,7 +51,9 @@ sources-read : (d : List ℕ) (k stop at : ℕ) → stop - at ≤ k → All (Rea
 sources-read d zero stop at h = rw (sources-end d stop at (omega arith)) none
 sources-read d (suc k) stop at h = go (ltb at stop) refl (sources-read d k stop (at + 4) (omega arith))
   where
-    go : (t : Bool) → ltb at stop ≡ t → All (ReadFrom d) (sourceItems d stop (at + 4)) → All (ReadFrom d) (sourceItems d stop at)
+    go :
+        (t : Bool) → ltb at stop ≡ t → All (ReadFrom d) (sourceItems d stop (at + 4))
+        → All (ReadFrom d) (sourceItems d stop at)
     go true t rest = rw (sources-part d stop at (ltb-true at stop t)) (also (farewell _ _) rest)
     go false t rest = rw (sources-end d stop at (ltb-false at stop t)) none
 
@@ -60,11 +62,13 @@ blocks-read :
     → All (ReadFrom d) (blocksItems d sender stop at)
 blocks-read d sender zero stop at h l e = rw (blocks-end d sender stop at (omega arith)) none
 blocks-read d sender (suc k) stop at h l e =
-    go (ltb at stop) refl (reports d at) refl (λ c. blocks-read d sender k stop (at + blockSize d at) (omega arith) l c)
+    go (ltb at stop) refl (reports d at) refl
+    (λ c. blocks-read d sender k stop (at + blockSize d at) (omega arith) l c)
   where
     go :
         (t : Bool) → ltb at stop ≡ t → (r : Bool) → reports d at ≡ r
-        → (blocksCheck d stop (at + blockSize d at) ≡ passed → All (ReadFrom d) (blocksItems d sender stop (at + blockSize d at)))
+        → (blocksCheck d stop (at + blockSize d at) ≡ passed
+        → All (ReadFrom d) (blocksItems d sender stop (at + blockSize d at)))
         → All (ReadFrom d) (blocksItems d sender stop at)
     go false t r g rest = rw (blocks-end d sender stop at (ltb-false at stop t)) none
     go true t true g rest =
@@ -85,7 +89,9 @@ packet-read : (d : List ℕ) (p : ℕ) → PacketsTurn d p → All (ReadFrom d) 
 packet-read d p turn = go (apart (packetType d p))
   where
     go : Apart (packetType d p) → All (ReadFrom d) (packetItems d p)
-    go (bye t) = rw (items-bye d p t) (sources-read d (p + (4 + 4 * count d p)) (p + (4 + 4 * count d p)) (p + 4) (omega arith))
+    go (bye t) =
+        rw (items-bye d p t)
+        (sources-read d (p + (4 + 4 * count d p)) (p + (4 + 4 * count d p)) (p + 4) (omega arith))
     go (xr t) =
         rw (items-xr d p t)
         (blocks-read d (be32 d (p + 4)) (p + content d p - (p + 8)) (p + content d p) (p + 8) (omega arith)
