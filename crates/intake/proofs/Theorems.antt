@@ -1,5 +1,5 @@
 -- What a caller may rely on, beyond the call's own contract: how long a list is long enough, and that demand 3 reaches
--- the table that a datagram leaves.
+-- the table that a datagram or an item of it leaves.
 use Prim.Native.Nat.{ℕ, _+_, _≤_}
 use mathlib.Core.Path.{_≡_, refl}
 use mathlib.Core.Bool.{true, false}
@@ -23,7 +23,8 @@ use Rattle.table.specs.History.{answersFrom, tableFrom, Reached}
 use Rattle.table.proofs.Agreement.Theorem.{reached-further, reached-answers}
 use Rattle.rtcp.specs.Bytes.{AreBytes}
 use Rattle.rtcp.specs.Report.{reportAt}
-use Rattle.rtcp.specs.Datagram.{datagramItems}
+use Rattle.rtcp.specs.Refusals.{passed}
+use Rattle.rtcp.specs.Datagram.{datagramCheck, datagramItems}
 use Rattle.rtcp.specs.Answers.{countOf}
 use Rattle.rtcp.proofs.Laws.Bytes.{be64-bound}
 use Rattle.rtcp.proofs.Laws.Answers.{count-passed}
@@ -75,8 +76,14 @@ calls-in-range d origin at h (also {x} {l} here rest) =
     ranges-append (callsOf origin at (x .item)) (callsIn origin at l) (item-in-range d origin at h here)
     (calls-in-range d origin at h rest)
 
+-- Each call of a datagram of bytes that is not refused is in range.
+pub datagram-in-range :
+    (d : List ℕ) (origin : Origin) (at : Reading) → AreBytes d → datagramCheck d ≡ passed
+    → AllInRange (datagramCalls d origin at)
+datagram-in-range d origin at h check = calls-in-range d origin at h (items-read d check)
+
 module _ (o : Opening) (calls : List Call) (t : Table) (rows : Rows) (here : Reached o calls t rows) where
-  -- Taken in, a datagram of bytes leaves a table that its calls, one by one, leave, or the table that was there.
+  -- Of every datagram of bytes all calls are made, and answered as the register answers them, or none is.
   pub datagram-reached :
       (d : List ℕ) → AreBytes d → (origin : Origin) (at : Reading) (lent : List ℕ)
       → DatagramReached o calls t rows d origin at lent
@@ -85,7 +92,7 @@ module _ (o : Opening) (calls : List Call) (t : Table) (rows : Rows) (here : Rea
       record {
         made = λ check room.
             let more = datagramCalls d origin at in
-            let ranges : AllInRange more = calls-in-range d origin at h (items-read d check) in
+            let ranges : AllInRange more = datagram-in-range d origin at h check in
             let enough : ltb (length lent) (length more) ≡ false = le-ltb (length lent) (length more) room in
             record {
               reached = rw (check, enough) (reached-further o calls t rows more here ranges);
@@ -113,7 +120,7 @@ module _ (o : Opening) (calls : List Call) (t : Table) (rows : Rows) (here : Rea
       reached-answers o calls t rows (call ∷ []) here ranges in
       record { reached = reached-further o calls t rows (call ∷ []) here ranges; outcome = cc }
 
-  -- And so does the item at an index.
+  -- Every item of it, taken in by its index, is one call, answered as the register answers it, or changes nothing.
   pub item-reached :
       (d : List ℕ) → AreBytes d → (index : ℕ) (origin : Origin) (at : Reading)
       → ItemReached o calls t rows d index origin at
