@@ -1,30 +1,38 @@
 -- What a caller may rely on, beyond the call's own contract: how long a list is long enough, and that demand 3 reaches
--- the table that a datagram leaves.
-use Prim.Native.Nat.{ℕ, _≤_}
-use mathlib.Core.Path.{_≡_}
-use mathlib.Core.Bool.{false}
-use mathlib.Core.List.{List, [], _∷_, _++_}
+-- the table that a datagram or an item of it leaves.
+use Prim.Native.Nat.{ℕ, _+_, _≤_}
+use mathlib.Core.Path.{_≡_, refl}
+use mathlib.Core.Bool.{true, false}
+use mathlib.Core.List.{List, [], _∷_}
 use lib.Dec.{ltb}
 use lib.ListN.{length}
 use native.Mathlib.Omega.{arith}
-use borrow.Author.Tests.{le-ltb}
+use borrow.Author.Tests.{lt-ltb, le-ltb}
 use Rattle.idms.specs.declared.Item.{Item}
 use Rattle.idms.specs.declared.Placed.{Placed}
 use Rattle.origin.specs.declared.Origin.{Origin}
 use Rattle.register.specs.declared.Reading.{Reading}
 use Rattle.rtcp.specs.declared.walk.Count.{Count}
-use Rattle.register.specs.Register.{Opening, Rows, Call, afterAll}
+use Rattle.register.specs.Register.{Opening, Rows, Call, answer, answers, afterAll}
 use Rattle.register.specs.Promise.{AllInRange}
+use Rattle.register.proofs.History.{answers-append, ranges-append}
 use Rattle.table.specs.declared.Table.{Table}
-use Rattle.table.specs.History.{Reached}
-use Rattle.table.proofs.Agreement.Theorem.{reached-further}
+use Rattle.table.specs.Calls.{answered}
+use Rattle.table.specs.Intake.{called, taken}
+use Rattle.table.specs.History.{answersFrom, tableFrom, Reached}
+use Rattle.table.proofs.Agreement.Theorem.{reached-further, reached-answers}
+use Rattle.rtcp.specs.Bytes.{AreBytes}
+use Rattle.rtcp.specs.Report.{reportAt}
 use Rattle.rtcp.specs.Refusals.{passed}
 use Rattle.rtcp.specs.Datagram.{datagramCheck, datagramItems}
 use Rattle.rtcp.specs.Answers.{countOf}
+use Rattle.rtcp.proofs.Laws.Bytes.{be64-bound}
 use Rattle.rtcp.proofs.Laws.Answers.{count-passed}
+use Rattle.rtcp.proofs.Laws.ItemPlaces.{All, none, also, ReadFrom, report, setting, farewell, items-read, item-read}
 use Rattle.rtcp.proofs.Theorems.{count-bound}
-use Rattle.intake.specs.Feeding.{callsIn, fed}
+use Rattle.intake.specs.Feeding.{callsOf, callsIn, fed, answersAfter}
 use Rattle.intake.specs.Steps.{weight, callCount}
+use Rattle.intake.specs.Reaching.{datagramCalls, DatagramReached, CallMade, ItemReached}
 use Rattle.intake.proofs.Laws.{length-calls}
 
 weight-bound : (item : Item) → weight item ≤ 1
@@ -50,16 +58,77 @@ enough-numbers d n origin at e =
 
 -- ---- demand 3
 
--- Taken in, a datagram leaves a table that its calls, one by one, leave: what was reached is reached further.
-pub fed-reached :
-    (o : Opening) (calls : List Call) (t : Table) (rows : Rows) → Reached o calls t rows →
-    (d : List ℕ) (origin : Origin) (at : Reading) (answers : List ℕ) →
-    datagramCheck d ≡ passed → length (callsIn origin at (datagramItems d)) ≤ length answers →
-    AllInRange (callsIn origin at (datagramItems d)) →
-    Reached o (calls ++ callsIn origin at (datagramItems d)) (fed t d origin at answers .table)
-    (afterAll o rows (callsIn origin at (datagramItems d)))
-unfolding fed
-fed-reached o calls t rows here d origin at answers check room ranges =
-    let enough : ltb (length answers) (length (callsIn origin at (datagramItems d))) ≡ false =
-    le-ltb (length answers) (length (callsIn origin at (datagramItems d))) room in
-    rw (check, enough) (reached-further o calls t rows (callsIn origin at (datagramItems d)) here ranges)
+-- the bytes of a report bound its received time
+item-in-range :
+    (d : List ℕ) (origin : Origin) (at : Reading) {x : Placed} → AreBytes d → ReadFrom d x
+    → AllInRange (callsOf origin at (x .item))
+unfolding reportAt AllInRange
+item-in-range d origin at h (report sender place r w l) = (be64-bound d (place + 16) h, tt)
+item-in-range d origin at h (setting p v t l) = tt
+item-in-range d origin at h (farewell place source) = (tt, tt)
+
+calls-in-range :
+    (d : List ℕ) (origin : Origin) (at : Reading) {items : List Placed} → AreBytes d → All (ReadFrom d) items
+    → AllInRange (callsIn origin at items)
+unfolding callsIn AllInRange
+calls-in-range d origin at h none = tt
+calls-in-range d origin at h (also {x} {l} here rest) =
+    ranges-append (callsOf origin at (x .item)) (callsIn origin at l) (item-in-range d origin at h here)
+    (calls-in-range d origin at h rest)
+
+-- Each call of a datagram of bytes that is not refused is in range.
+pub datagram-in-range :
+    (d : List ℕ) (origin : Origin) (at : Reading) → AreBytes d → datagramCheck d ≡ passed
+    → AllInRange (datagramCalls d origin at)
+datagram-in-range d origin at h check = calls-in-range d origin at h (items-read d check)
+
+module _ (o : Opening) (calls : List Call) (t : Table) (rows : Rows) (here : Reached o calls t rows) where
+  -- Of every datagram of bytes all calls are made, and answered as the register answers them, or none is.
+  pub datagram-reached :
+      (d : List ℕ) → AreBytes d → (origin : Origin) (at : Reading) (lent : List ℕ)
+      → DatagramReached o calls t rows d origin at lent
+  unfolding fed answersAfter
+  datagram-reached d h origin at lent =
+      record {
+        made = λ check room.
+            let more = datagramCalls d origin at in
+            let ranges : AllInRange more = datagram-in-range d origin at h check in
+            let enough : ltb (length lent) (length more) ≡ false = le-ltb (length lent) (length more) room in
+            record {
+              reached = rw (check, enough) (reached-further o calls t rows more here ranges);
+              numbers = rw (check, enough, reached-answers o calls t rows more here) refl;
+              later = rw (here .rows-are) (answers-append o [] calls more);
+              number = rw (check, enough) refl;
+              count = rw (check, enough) refl;
+            };
+        unread = λ number place check.
+            record { reached = rw check here; numbers = rw check refl; number = rw check refl; count = rw check refl };
+        short = λ check less.
+            let many : ltb (length lent) (length (datagramCalls d origin at)) ≡ true = lt-ltb _ _ less in
+            record {
+              reached = rw (check, many) here;
+              numbers = rw (check, many) refl;
+              number = rw (check, many) refl;
+              count = rw (check, many) refl;
+            };
+      }
+
+  call-made : (call : Call) → AllInRange (call ∷ []) → CallMade o calls t rows call (called t call)
+  unfolding tableFrom answersFrom afterAll answers
+  call-made call ranges =
+      let same : answered t call .number ∷ [] ≡ answer o rows call ∷ [] =
+      reached-answers o calls t rows (call ∷ []) here in
+      record { reached = reached-further o calls t rows (call ∷ []) here ranges; outcome = cc }
+
+  -- Every item of it, taken in by its index, is one call, answered as the register answers it, or changes nothing.
+  pub item-reached :
+      (d : List ℕ) → AreBytes d → (index : ℕ) (origin : Origin) (at : Reading)
+      → ItemReached o calls t rows d index origin at
+  unfolding taken
+  item-reached d h index origin at =
+      record {
+        report = λ place r e. rw e (call-made _ (item-in-range d origin at h (item-read d index _ e)));
+        farewell = λ place source e. rw e (call-made _ (item-in-range d origin at h (item-read d index _ e)));
+        settings = λ place s e. rw e refl;
+        unread = λ r e. rw e refl;
+      }

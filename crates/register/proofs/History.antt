@@ -1,8 +1,9 @@
--- Calls after calls.
+-- Calls after calls: the register goes on from the rows that the first of them left.
 use Prim.Native.Nat.{ℕ}
-use mathlib.Core.List.{List, [], _∷_, _++_}
 use mathlib.Core.Path.{_≡_, refl, ap}
+use mathlib.Core.List.{List, [], _∷_, _++_}
 use Rattle.register.specs.Register.{Opening, Rows, Call, answer, after, answers, afterAll}
+use Rattle.register.specs.Promise.{AllInRange}
 
 pub rows-append :
     (o : Opening) (rows : Rows) (calls more : List Call) →
@@ -17,4 +18,9 @@ pub answers-append :
 unfolding answers afterAll
 answers-append o rows [] more = refl
 answers-append o rows (call ∷ calls) more =
-    ap (λ (numbers : List ℕ). answer o rows call ∷ numbers) (answers-append o (after o rows call) calls more)
+    ap (λ (ns : List ℕ). answer o rows call ∷ ns) (answers-append o (after o rows call) calls more)
+
+pub ranges-append : (calls more : List Call) → AllInRange calls → AllInRange more → AllInRange (calls ++ more)
+unfolding AllInRange
+ranges-append [] more first second = second
+ranges-append (call ∷ calls) more first second = (first .0, ranges-append calls more (first .1) second)

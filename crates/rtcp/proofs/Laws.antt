@@ -1,9 +1,11 @@
+pub mod Bytes
 pub mod Types
 pub mod Walk
 pub mod Packet
 pub mod Blocks
 pub mod Datagram
 pub mod Answers
+pub mod ItemPlaces
 pub mod Advance
 pub mod Cursor
 pub mod Puts

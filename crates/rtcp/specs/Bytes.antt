@@ -1,10 +1,14 @@
 -- The fields of a datagram. Numbers are big-endian. A byte past the end reads as 0; no item reads one.
-use Prim.Native.Nat.{ℕ, _+_, _*_, _^_}
+use Prim.Native.Nat.{ℕ, _+_, _*_, _^_, _<_}
 use mathlib.Core.List.{List}
 use lib.ListN.{getD}
 
 abbrev pub byte : List ℕ → ℕ → ℕ
 byte d at = getD d at 0
+
+-- a list of bytes
+abbrev pub AreBytes : List ℕ → Type 0
+AreBytes d = (i : ℕ) → byte d i < 2 ^ 8
 
 -- the number that four bytes spell
 abbrev pub joined : ℕ → ℕ → ℕ → ℕ → ℕ

@@ -1,54 +1,31 @@
 -- Demand 2, second half: what was read writes back as the datagram's own bytes, once reserved bits, padding and an unused
--- presented time are cleared. Each item comes from a block or packet (Laws/Origins), and word by word its fields spell the
--- bytes that were there (Laws/Words).
+-- presented time are cleared. Each item is read from a block or packet (rtcp's Laws/ItemPlaces), and word by word its
+-- fields spell the bytes that were there (Laws/Words).
 use Prim.Native.Nat.{ℕ, _+_, _*_, _/_, _%_, _^_, _≤_, _<_}
 use mathlib.Core.Path.{_≡_, refl, sym, ap, ap₂, _∙_}
 use mathlib.Core.List.{List, [], _∷_, _++_}
 use mathlib.Core.Bool.{Bool, true, false, not, cond, _&&_, _||_}
-use lib.ListN.{length, getD, take, drop}
-use lib.Dec.{ltb, eqb}
+use lib.ListN.{length, take, drop}
+use lib.Dec.{eqb}
 use native.Mathlib.Omega.{arith}
-use borrow.Author.Tests.{ltb-true, ltb-false, le-ltb, eqb-true, eqb-false, ne-eqb}
+use borrow.Author.Tests.{le-ltb, eqb-true, eqb-false, ne-eqb}
 use Rattle.idms.specs.Rows.{bit}
 use Rattle.idms.specs.declared.Report.{Report}
 use Rattle.idms.specs.declared.Settings.{Settings}
 use Rattle.idms.specs.declared.Item.{Item}
 use Rattle.idms.specs.declared.Placed.{Placed}
 use Rattle.idms.specs.declared.Found.{Found}
-use Rattle.rtcp.specs.Refusals.{Check, passed, refused}
-use Rattle.rtcp.specs.Bytes.{byte, be16, be32, be64}
+use Rattle.rtcp.specs.Bytes.{AreBytes, byte, be16, be32, be64}
 use Rattle.rtcp.specs.Packet.{version, packetType}
 use Rattle.rtcp.specs.Report.{blockType, blockLength, role, presents, reports, reportAt}
 use Rattle.rtcp.specs.Settings.{settingsAt}
 use Rattle.rtcp.specs.Puts.{flat}
-use Rattle.rtcp.specs.Datagram.{datagramCheck, datagramItems}
-use Rattle.rtcp.specs.Answers.{itemOf, nothing}
+use Rattle.rtcp.specs.Answers.{itemOf}
 use Rattle.rtcp.proofs.Laws.Blocks.{and-left, and-right}
-use Rattle.rtcp.proofs.Laws.Answers.{item-refused, item-past, item-there}
+use Rattle.rtcp.proofs.Laws.ItemPlaces.{ReadFrom, report, setting, farewell, item-read}
 use Rattle.writer.specs.Messages.{bytes32, bytesOf, reportWords, settingsWords, reportIsUnwritable, settingsAreUnwritable, buffer}
-use Rattle.writer.specs.RoundTrip.{AreBytes, part, clearedReport, clearedSettings}
+use Rattle.writer.specs.RoundTrip.{part, clearedReport, clearedSettings}
 use Rattle.writer.proofs.Laws.Words.{part-word, wordsAt, words-part, be64-high, be64-low}
-use Rattle.writer.proofs.Laws.Origins.{all-at, Origin, report, setting, farewell, items-origin}
-
--- ---- an item that was read is one of the datagram's
-
-origin-of : (d : List ℕ) (index : ℕ) (x : Placed) → itemOf d index ≡ Found.Item x → Origin d x
-origin-of d index x e = go (datagramCheck d) refl (ltb index (length (datagramItems d))) refl
-  where
-    go : (k : Check) → datagramCheck d ≡ k → (t : Bool) → ltb index (length (datagramItems d)) ≡ t → Origin d x
-    go (refused number place) k t b =
-        let other : _ = item-refused d index number place k in
-        let z : _≡_ {A = ℕ} 0 1 = cc in
-        absurd (omega arith)
-    go passed k false b =
-        let other : _ = item-past d index k (ltb-false index (length (datagramItems d)) b) in
-        let z : _≡_ {A = ℕ} 0 1 = cc in
-        absurd (omega arith)
-    go passed k true b =
-        let here : index < length (datagramItems d) = ltb-true index (length (datagramItems d)) b in
-        let there : _ = item-there d index k here in
-        let same : getD (datagramItems d) index nothing ≡ x = cc in
-        rw same at (all-at (Origin d) (datagramItems d) index nothing (items-origin d k) here)
 
 -- ---- the report
 
@@ -147,9 +124,9 @@ record ReadReport (d : List ℕ) (place : ℕ) (r : Report) : Type 0 where
 read-report :
     (d : List ℕ) (index place : ℕ) (r : Report) → AreBytes d
     → itemOf d index ≡ Found.Item (record { place = place; item = Item.Report r }) → ReadReport d place r
-read-report d index place r h e = take (origin-of d index _ e) refl
+read-report d index place r h e = take (item-read d index _ e) refl
   where
-    take : {x : Placed} → Origin d x → x ≡ record { place = place; item = Item.Report r } → ReadReport d place r
+    take : {x : Placed} → ReadFrom d x → x ≡ record { place = place; item = Item.Report r } → ReadReport d place r
     take (report sender at t w l) e =
         let there : at ≡ place = ap (λ (y : Placed). y .place) e in
         let items : Item.Report (reportAt d sender at) ≡ Item.Report r = ap (λ (y : Placed). y .item) e in
@@ -243,10 +220,10 @@ pub settings-read-write :
     → (s .group ≡ 4294967295 → ⊥) → 36 ≤ length buf
     → take 36 (buffer (settingsAreUnwritable s) (settingsWords s) buf) ≡ clearedSettings d place
 settings-read-write d buf index place s h e g l =
-    rw (ne-eqb (s .group) 4294967295 g, le-ltb (length buf) 36 l) (found (origin-of d index _ e) refl)
+    rw (ne-eqb (s .group) 4294967295 g, le-ltb (length buf) 36 l) (found (item-read d index _ e) refl)
   where
     found :
-        {x : Placed} → Origin d x → x ≡ record { place = place; item = Item.Settings s }
+        {x : Placed} → ReadFrom d x → x ≡ record { place = place; item = Item.Settings s }
         → bytesOf (settingsWords s) ≡ clearedSettings d place
     found (setting p v t l) e =
         let there : p ≡ place = ap (λ (y : Placed). y .place) e in

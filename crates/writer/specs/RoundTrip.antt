@@ -32,10 +32,6 @@ pub record SettingsFit (s : Settings) : Type 0 where
   pub rtp : s .rtp < 2 ^ 32
   pub presented : s .presented < 2 ^ 64
 
--- a list of bytes
-abbrev pub AreBytes : List ℕ → Type 0
-AreBytes d = (i : ℕ) → byte d i < 2 ^ 8
-
 -- n bytes of a datagram from a place on
 abbrev pub part : List ℕ → ℕ → ℕ → List ℕ
 part d at n = take n (drop at d)

@@ -18,6 +18,7 @@ use Rattle.register.specs.Choosing.{choice}
 use Rattle.register.specs.Promise.{AllInRange}
 use Rattle.register.specs.Letter.{History, history, madeIn, BadOpening, openingLines, Means}
 use Rattle.register.proofs.Rows.{member-permuted}
+use Rattle.register.proofs.History.{rows-append, ranges-append}
 use Rattle.register.proofs.Unique.{unique-permuted}
 use Rattle.register.proofs.Permuted.{choice-permuted}
 use Rattle.register.proofs.Stands.{Sound, sound-rows}
@@ -153,18 +154,24 @@ shown-row o taken h x = (row-seat o t rows holds x, shown)
 
 -- ---- demand 3
 
+reached-holds :
+    (o : Opening) (calls : List Call) (t : Table) (rows : Rows) → Reached o calls t rows → Holds o t rows
+reached-holds o calls t rows here =
+    rw (here .table-is, here .rows-are) (from-opened o (here .taken) calls .holds)
+
 pub demand3 :
     (o : Opening) (calls : List Call) (t : Table) (rows : Rows) → Reached o calls t rows → Demand3 o calls t rows
 demand3 o calls t rows reached =
-    let run : Followed o (opened o .table) [] calls = from-opened o (reached .taken) calls in
-    let holds : Holds o t rows = rw (reached .table-is, reached .rows-are) (run .holds) in
+    let same : answersFrom (opened o .table) calls ≡ answers o [] calls =
+    from-opened o (reached .taken) calls .answers-same in
+    let holds : Holds o t rows = reached-holds o calls t rows reached in
     let sound : Sound o rows = rw (reached .rows-are) (sound-rows o calls (reached .ranges)) in
     record {
       opens = opened-taken o (reached .taken) .0;
-      numbers = run .answers-same;
+      numbers = same;
       agree = agreed o t rows holds sound;
       letter =
-          rw (run .answers-same)
+          rw same
           (letter-shown o (history calls (answers o [] calls)) (IsRow o) (IsShown o) (shown-row o (reached .taken))
           (letter o calls));
       chosen = λ at. ap (λ (c : Choice). record { choice = c; table = t }) (chosen-same o t rows holds at);
@@ -184,18 +191,6 @@ unfolding tableFrom
 table-append t [] more = refl
 table-append t (call ∷ calls) more = table-append (answered t call .table) calls more
 
-rows-append :
-    (o : Opening) (rows : Rows) (calls more : List Call) →
-    afterAll o rows (calls ++ more) ≡ afterAll o (afterAll o rows calls) more
-unfolding afterAll
-rows-append o rows [] more = refl
-rows-append o rows (call ∷ calls) more = rows-append o (after o rows call) calls more
-
-ranges-append : (calls more : List Call) → AllInRange calls → AllInRange more → AllInRange (calls ++ more)
-unfolding AllInRange
-ranges-append [] more first second = second
-ranges-append (call ∷ calls) more first second = (first .0, ranges-append calls more (first .1) second)
-
 -- what is reached is reached further by more calls, one by one or in a datagram
 pub reached-further :
     (o : Opening) (calls : List Call) (t : Table) (rows : Rows) (more : List Call) → Reached o calls t rows →
@@ -208,3 +203,10 @@ reached-further o calls t rows more here ranges =
           ap (λ (u : Table). tableFrom u more) (here .table-is) ∙ sym (table-append (opened o .table) calls more);
       rows-are = ap (λ (rs : Rows). afterAll o rs more) (here .rows-are) ∙ sym (rows-append o [] calls more);
     }
+
+-- and these calls are answered as the register answers them
+pub reached-answers :
+    (o : Opening) (calls : List Call) (t : Table) (rows : Rows) (more : List Call) → Reached o calls t rows →
+    answersFrom t more ≡ answers o rows more
+reached-answers o calls t rows more here =
+    followed o t rows more (reached-holds o calls t rows here) .answers-same

@@ -7,10 +7,11 @@ use lib.Seq.{drop-cons, take-add, drop-drop}
 use native.Mathlib.Nat.{div-div-eq-div-mul, div-add-mod', mod-eq-of-lt}
 use native.Mathlib.Numerals.{add-one, add-two, add-three}
 use native.Mathlib.Omega.{arith}
-use Rattle.rtcp.specs.Bytes.{byte, joined, be32, be64}
+use Rattle.rtcp.specs.Bytes.{AreBytes, byte, joined, be32, be64}
 use Rattle.rtcp.specs.Puts.{flat}
+use Rattle.rtcp.proofs.Laws.Bytes.{be32-bound}
 use Rattle.writer.specs.Messages.{bytes32}
-use Rattle.writer.specs.RoundTrip.{AreBytes, part}
+use Rattle.writer.specs.RoundTrip.{part}
 
 -- ---- joined of a word's bytes
 
@@ -93,11 +94,6 @@ words-part d at (suc n) h l =
     ∙ ap (λ (r : List ℕ). part d at 4 ++ r) (words-part d (at + 4) n h (omega arith))
     ∙ part-append d at 4 (4 * n)
     ∙ ap (part d at) four
-
--- a word is below 2^32
-pub be32-bound : (d : List ℕ) (at : ℕ) → AreBytes d → be32 d at < 2 ^ 32
-unfolding be32
-be32-bound d at h = omega (arith, h at, h (at + 1), h (at + 2), h (at + 3))
 
 -- the two words of a long number
 pub be64-high : (d : List ℕ) (at : ℕ) → AreBytes d → be64 d at / 2 ^ 32 ≡ be32 d at
