@@ -213,7 +213,7 @@ nine-past-the-count d n index e = (there (ltb index n) refl, back)
     back : n ≤ index → itemOf d index ≡ Found.Refused (refusal 9 0)
     back h = item-past d index (known .0) (omega (arith, known .1))
 
--- No item comes from a refused datagram.
+-- No index gives an item of a refused datagram.
 pub no-item-of-a-refused : (d : List ℕ) (r : Refusal) (index : ℕ) (x : Placed) → countOf d ≡ Count.Refused r → itemOf d index ≡ Found.Item x → ⊥
 no-item-of-a-refused d r index x e f =
     let g : _ = item-refused d index (r .number) (r .place) (count-refused d r e) in
