@@ -31,7 +31,7 @@ use Rattle.rtcp.proofs.Laws.Cursor.{cursor-gives-items}
 
 -- ---- the numbers that a datagram is refused with are 1 to 7
 
-abbrev Numbered : Check → Type 0
+abbrev pub Numbered : Check → Type 0
 Numbered check = (number place : ℕ) → check ≡ refused number place → DatagramNumber number
 
 passed-numbered : Numbered passed
