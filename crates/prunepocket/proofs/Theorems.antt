@@ -1,5 +1,5 @@
--- What C may rely on, beyond each call's own contract: the number of the answer is 0 exactly where the call was not refused.
--- Each statement is of the answer as the call's contract has it.
+-- What C may rely on, beyond each call's own contract: the number of the answer is 0 exactly where the call was not
+-- refused. Each statement is of the answer as the call's contract has it.
 use Prim.Native.Nat.{ℕ, _≤_}
 use mathlib.Core.Path.{_≡_, refl, ap, _∙_}
 use mathlib.Core.List.{List, [], _∷_}
@@ -47,7 +47,8 @@ count-accepted (Count.Items n) h = ((λ e. (n, refl)), λ s. refl)
 count-accepted (Count.Refused r) h = ((λ e. absurd (omega (arith, h r refl))), λ s. let e : _ = s .1 in cc)
 
 -- prunepocket_count_items
-pub count-items-accepted : (d : List ℕ) → (countAnswer (countOf d) .number ≡ 0) ↔ ((n : ℕ) × (countOf d ≡ Count.Items n))
+pub count-items-accepted :
+    (d : List ℕ) → (countAnswer (countOf d) .number ≡ 0) ↔ ((n : ℕ) × (countOf d ≡ Count.Items n))
 count-items-accepted d = count-accepted (countOf d) (λ r e. count-numbered d r e .0)
 
 -- prunepocket_read_items
@@ -176,5 +177,6 @@ followed-accepted (Choice.Refused n) t h = ((λ e. absurd (omega (arith, h n ref
 
 -- prunepocket_choose
 pub choose-accepted :
-    (t : Table) (at : Reading) → (followedOf (choiceOf t at) t .number ≡ 0) ↔ ((x : Target) × (choiceOf t at ≡ Choice.Target x))
+    (t : Table) (at : Reading)
+    → (followedOf (choiceOf t at) t .number ≡ 0) ↔ ((x : Target) × (choiceOf t at ≡ Choice.Target x))
 choose-accepted t at = followed-accepted (choiceOf t at) t (choice-numbered t at)

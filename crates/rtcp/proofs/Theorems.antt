@@ -1,10 +1,10 @@
--- What a caller may rely on, beyond each call's own contract: which numbers a refusal has, and how the count, the item at
--- an index and the cursor agree.
+-- What a caller may rely on, beyond each call's own contract: which numbers a refusal has, and how the count, the item
+-- at an index and the cursor agree.
 use Prim.Native.Nat.{ℕ, suc, zero, _+_, _-_, _*_, _%_, _≤_}
 use mathlib.Core.Path.{_≡_, refl, sym, ap, _∙_}
 use mathlib.Core.List.{List}
 use mathlib.Core.Logic.{_↔_, _⊎_, inl, inr}
-use mathlib.Core.Bool.{Bool, true, false, not, _&&_, _||_}
+use mathlib.Core.Bool.{Bool, true, false, not, cond, _&&_, _||_}
 use lib.ListN.{length}
 use lib.Dec.{ltb, eqb}
 use native.Mathlib.Omega.{arith}
@@ -20,8 +20,8 @@ use Rattle.rtcp.specs.Packet.{version, packetType, count, size, content,
 use Rattle.rtcp.specs.Report.{blockType, blockLength, blockSize, blockCheck}
 use Rattle.rtcp.specs.Datagram.{blocksCheck, packetCheck, packetItems, lengthIsBad, datagramCheck, datagramItems}
 use Rattle.rtcp.specs.Cursor.{start, given}
-use Rattle.rtcp.specs.Answers.{refusal, countOf, itemOf, openedOf}
-use Rattle.rtcp.specs.Rows.{tooShort, rowsAnswer}
+use Rattle.rtcp.specs.Answers.{refusal, countOf, pick, found, itemOf, opened, openedOf}
+use Rattle.rtcp.specs.Rows.{tooShort, answered, rowsAnswer}
 use Rattle.rtcp.proofs.Laws.Types.{byType-xr, byType-unless-xr}
 use Rattle.rtcp.proofs.Laws.Walk.{gives-bound}
 use Rattle.rtcp.proofs.Laws.Packet.{check-passes, or-false}
@@ -37,7 +37,8 @@ Numbered check = (number place : ℕ) → check ≡ refused number place → Dat
 passed-numbered : Numbered passed
 passed-numbered number place e = let z : _≡_ {A = ℕ} 0 1 = cc in absurd (omega arith)
 
-refuseIf-numbered : (t : Bool) (n p : ℕ) (later : Check) → DatagramNumber n → Numbered later → Numbered (refuseIf t n p later)
+refuseIf-numbered :
+    (t : Bool) (n p : ℕ) (later : Check) → DatagramNumber n → Numbered later → Numbered (refuseIf t n p later)
 refuseIf-numbered false n p later h rest number place e = rest number place e
 refuseIf-numbered true n p later h rest number place e = let same : n ≡ number = cc in rw same at h
 
@@ -69,13 +70,15 @@ head-numbered d p =
     (refuseIf-numbered (ltb (length d) (p + size d p)) 2 p _ (omega arith, omega arith)
     (refuseIf-numbered (paddingIsBad d p) 3 p _ (omega arith, omega arith)
     (refuseIf-numbered (eqb p 0 && not (opens (packetType d p))) 4 p _ (omega arith, omega arith)
-    (refuseIf-numbered (contentIsShort (packetType d p) (count d p) (content d p)) 5 p _ (omega arith, omega arith) passed-numbered))))
+    (refuseIf-numbered (contentIsShort (packetType d p) (count d p) (content d p)) 5 p _ (omega arith, omega arith)
+    passed-numbered))))
 
 block-numbered : (d : List ℕ) (stop at : ℕ) → Numbered (blockCheck d stop at)
 unfolding blockCheck
 block-numbered d stop at =
     refuseIf-numbered (ltb stop (at + blockSize d at)) 6 at _ (omega arith, omega arith)
-    (refuseIf-numbered (eqb (blockType d at) 12 && not (eqb (blockLength d at) 7)) 7 at _ (omega arith, omega arith) passed-numbered)
+    (refuseIf-numbered (eqb (blockType d at) 12 && not (eqb (blockLength d at) 7)) 7 at _ (omega arith, omega arith)
+    passed-numbered)
 
 packet-numbered : (d : List ℕ) (p : ℕ) → Numbered (packetCheck d p)
 unfolding packetCheck
@@ -103,67 +106,56 @@ numberOf (Found.Item x) = 0
 numberOf (Found.Refused r) = r .number
 
 numbered-as :
-    (d : List ℕ) (number place : ℕ) (r : Refusal) → datagramCheck d ≡ refused number place → refusal number place ≡ r
+    (number place : ℕ) (r : Refusal) → Numbered (refused number place) → refusal number place ≡ r
     → DatagramNumber (r .number)
-numbered-as d number place r k same =
-    let n : number ≡ r .number = ap (λ (x : Refusal). x .number) same in
-    rw n at (datagram-numbered d number place k)
+numbered-as number place r h same = h (r .number) (r .place) (ap (λ (x : Refusal). refused (x .number) (x .place)) same)
 
 pub count-numbered : (d : List ℕ) (r : Refusal) → countOf d ≡ Count.Refused r → DatagramNumber (r .number)
 count-numbered d r e = datagram-numbered d (r .number) (r .place) (count-refused d r e)
 
 pub opened-numbered : (d : List ℕ) (r : Refusal) → openedOf d ≡ Opened.Refused r → DatagramNumber (r .number)
 unfolding openedOf
-opened-numbered d r e = go (datagramCheck d) refl
+opened-numbered d r e = go (datagramCheck d) (datagram-numbered d) e
   where
-    go : (k : Check) → datagramCheck d ≡ k → DatagramNumber (r .number)
-    go passed k =
-        let o : Opened.Items (length (datagramItems d)) start ≡ Opened.Refused r = rw k at e in
-        let z : _≡_ {A = ℕ} 0 1 = cc in
-        absurd (omega arith)
-    go (refused number place) k =
-        let o : Opened.Refused (refusal number place) ≡ Opened.Refused r = rw k at e in
-        numbered-as d number place r k (cc)
+    go : (k : Check) → Numbered k → opened k (length (datagramItems d)) ≡ Opened.Refused r → DatagramNumber (r .number)
+    go passed h e = let z : _≡_ {A = ℕ} 0 1 = cc in absurd (omega arith)
+    go (refused number place) h e = numbered-as number place r h (cc)
 
 pub item-numbered :
     (d : List ℕ) (index : ℕ) (r : Refusal) → itemOf d index ≡ Found.Refused r
     → DatagramNumber (r .number) ⊎ (r .number ≡ noSuchItem)
-item-numbered d index r e = go (datagramCheck d) refl (ltb index (length (datagramItems d))) refl
+unfolding itemOf pick
+item-numbered d index r e = go (datagramCheck d) (datagram-numbered d) e
   where
+    past :
+        (t : Bool) (x : Placed) → cond t (Found.Item x) (Found.Refused (refusal noSuchItem 0)) ≡ Found.Refused r
+        → r .number ≡ noSuchItem
+    past true x e = cc
+    past false x e = sym (ap numberOf e)
+
     go :
-        (k : Check) → datagramCheck d ≡ k → (t : Bool) → ltb index (length (datagramItems d)) ≡ t
+        (k : Check) → Numbered k → found k (datagramItems d) index ≡ Found.Refused r
         → DatagramNumber (r .number) ⊎ (r .number ≡ noSuchItem)
-    go (refused number place) k t b =
-        let o : _ = item-refused d index number place k in
-        inl (numbered-as d number place r k (cc))
-    go passed k true b =
-        let o : _ = item-there d index k (ltb-true index (length (datagramItems d)) b) in
-        let z : _≡_ {A = ℕ} 0 1 = cc in
-        absurd (omega arith)
-    go passed k false b =
-        let o : _ = item-past d index k (ltb-false index (length (datagramItems d)) b) in
-        inr (ap numberOf (sym e ∙ o))
+    go passed h e = inr (past (ltb index (length (datagramItems d))) _ e)
+    go (refused number place) h e = inl (numbered-as number place r h (cc))
 
 pub rows-numbered :
     (d rows : List ℕ) (r : Refusal) → rowsAnswer d rows ≡ Count.Refused r
     → DatagramNumber (r .number) ⊎ (r .number ≡ shortBuffer)
 unfolding rowsAnswer
-rows-numbered d rows r e = go (datagramCheck d) refl (tooShort (length (datagramItems d)) rows) refl
+rows-numbered d rows r e = go (datagramCheck d) (datagram-numbered d) e
   where
+    short :
+        (t : Bool) (n : ℕ) → cond t (Count.Refused (refusal shortBuffer 0)) (Count.Items n) ≡ Count.Refused r
+        → r .number ≡ shortBuffer
+    short true n e = let same : refusal shortBuffer 0 ≡ r = cc in sym (ap (λ (x : Refusal). x .number) same)
+    short false n e = cc
+
     go :
-        (k : Check) → datagramCheck d ≡ k → (t : Bool) → tooShort (length (datagramItems d)) rows ≡ t
+        (k : Check) → Numbered k → answered k (datagramItems d) rows ≡ Count.Refused r
         → DatagramNumber (r .number) ⊎ (r .number ≡ shortBuffer)
-    go (refused number place) k t b =
-        let o : Count.Refused (refusal number place) ≡ Count.Refused r = rw k at e in
-        inl (numbered-as d number place r k (cc))
-    go passed k true b =
-        let o : Count.Refused (refusal shortBuffer 0) ≡ Count.Refused r = rw (k, b) at e in
-        let same : refusal shortBuffer 0 ≡ r = cc in
-        inr (sym (ap (λ (x : Refusal). x .number) same))
-    go passed k false b =
-        let o : Count.Items (length (datagramItems d)) ≡ Count.Refused r = rw (k, b) at e in
-        let z : _≡_ {A = ℕ} 0 1 = cc in
-        absurd (omega arith)
+    go passed h e = inr (short (tooShort (length (datagramItems d)) rows) _ e)
+    go (refused number place) h e = inl (numbered-as number place r h (cc))
 
 -- ---- the count and the items agree
 

@@ -174,8 +174,8 @@ fn stepped(d: &[u8], c: State) -> Advance
     }
 }
 
-// The next item of the datagram that the cursor was opened on and the cursor behind it, or the end. With another datagram
-// it gives what can be read there, which may be an item of a datagram that is refused: the checks are not asked again.
+// The next item of the datagram that the cursor was opened on and the cursor behind it, or the end. With another
+// datagram it gives what can be read there, which may be an item of one that is refused: no check is asked again.
 pub fn next_item(d: &[u8], from: Cursor) -> Step
     ensures { λ r. ⌜ r ≡ nextOf (now (d .entry)) from ⌝ }
 {

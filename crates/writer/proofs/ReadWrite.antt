@@ -238,8 +238,8 @@ module _ (d : List ℕ) (p : ℕ) (h : AreBytes d) (v : version d p ≡ 2) (t : 
       ∷ 8
       ∷ (ap (flat bytes32) settings-words ∙ words-part d (p + 4) 8 h (omega arith)) i
 
--- For settings that were read and may be written, in every buffer of 36 bytes or more: the writer answers that it wrote 36
--- bytes, and they are the packet's own at the item's place, cleared.
+-- For settings that were read and may be written, in every buffer of 36 bytes or more: the writer answers that it wrote
+-- 36 bytes, and they are the packet's own at the item's place, cleared.
 pub settings-read-write :
     (d buf : List ℕ) (index place : ℕ) (s : Settings) → AreBytes d
     → itemOf d index ≡ Found.Item (record { place = place; item = Item.Settings s })

@@ -1,5 +1,5 @@
--- Demand 2, first half: what a writer leaves in the buffer reads back as the same fields. The datagram is written out, so
--- that the walk over it computes; what is left is that four bytes spell their word.
+-- Demand 2, first half: what a writer leaves in the buffer reads back as the same fields. The datagram is written out,
+-- so that the walk over it computes; what is left is that four bytes spell their word.
 use Prim.Native.Nat.{ℕ, _+_, _*_, _/_, _%_, _^_, _≤_}
 use mathlib.Core.Path.{_≡_, refl, sym, ap, _∙_}
 use mathlib.Core.List.{List}
@@ -86,8 +86,8 @@ same-report r fits h =
     shown true e = joined-bytes32 (r .presented) (fits .presented)
     shown false e = sym (writable-presented r h e)
 
--- For all fields that may be written, in every buffer of 40 bytes or more, and whatever the RR's sender: the writer answers
--- that it wrote 40 bytes, and the buffer's first 40 give exactly one item, with these fields.
+-- For all fields that may be written, in every buffer of 40 bytes or more, and whatever the RR's sender: the writer
+-- answers that it wrote 40 bytes, and the buffer's first 40 give exactly one item, with these fields.
 pub report-write-read :
     (r : Report) (buf : List ℕ) (ssrc : ℕ) → ReportFits r → reportIsUnwritable r ≡ false → 40 ≤ length buf
     → (written (reportIsUnwritable r) (reportWords r) buf ≡ Written.Bytes 40)
@@ -96,8 +96,8 @@ pub report-write-read :
 unfolding reportIn
 report-write-read r buf ssrc fits h l =
     let walked : _ = walk-report r (r .p) ssrc in
-    let back : _ = ap (λ (x : Report). Found.Item (record { place = 16; item = Item.Report x })) (same-report r fits h) in
-    rw (h, le-ltb (length buf) 40 l) (refl, (walked .0, walked .1 ∙ back))
+    let found : Report → Found = λ x. Found.Item (record { place = 16; item = Item.Report x }) in
+    rw (h, le-ltb (length buf) 40 l) (refl, (walked .0, walked .1 ∙ ap found (same-report r fits h)))
 
 -- ---- the settings
 
@@ -130,7 +130,7 @@ same-settings s fits =
       presented = joined-halves (s .presented) (fits .presented) i;
     }
 
--- The same of settings, whose 36 bytes are at the packet's own place.
+-- The same of settings: 36 bytes, for every group but 4,294,967,295.
 pub settings-write-read :
     (s : Settings) (buf : List ℕ) (ssrc : ℕ) → SettingsFit s → (s .group ≡ 4294967295 → ⊥) → 36 ≤ length buf
     → (written (settingsAreUnwritable s) (settingsWords s) buf ≡ Written.Bytes 36)
@@ -138,5 +138,6 @@ pub settings-write-read :
     (record { place = 8; item = Item.Settings s })
 settings-write-read s buf ssrc fits g l =
     let walked : _ = walk-settings s ssrc in
-    let back : _ = ap (λ (x : Settings). Found.Item (record { place = 8; item = Item.Settings x })) (same-settings s fits) in
-    rw (ne-eqb (s .group) 4294967295 g, le-ltb (length buf) 36 l) (refl, (walked .0, walked .1 ∙ back))
+    let found : Settings → Found = λ x. Found.Item (record { place = 8; item = Item.Settings x }) in
+    rw (ne-eqb (s .group) 4294967295 g, le-ltb (length buf) 36 l)
+    (refl, (walked .0, walked .1 ∙ ap found (same-settings s fits)))
