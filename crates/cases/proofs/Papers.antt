@@ -30,7 +30,7 @@ papers-hold = (
             (
               refl,
               (
-                (refl, refl, refl, refl),
+                (refl, refl, refl, refl, refl, refl),
                 (
                   (refl, refl, refl, refl),
                   ((refl, refl, refl), tt),

@@ -179,12 +179,16 @@ P7 = numberAt wrapped (beforeWrap 0) ≡ 17
 abbrev pub receivedAt : ℕ → Record
 receivedAt received = member 10 received 8910000 0x03E78000
 
--- received 970 s passes 15, one unit earlier is refused; received N passes, N plus one unit is refused
+-- Received 970 s passes 15, one unit earlier is refused; received N passes, N plus one unit is refused. Passing means
+-- passing that one check: the other fields are P1's, and P1 is presented half a second before N, so that at received N
+-- its delay is half a second less than a full turn. The table then answers 17, as it does only where 15 does not apply.
 abbrev pub P8 : Type 0
 P8 =
     (isFar (reading .ntp) (seconds 970) ≡ false)
+    × (numberAt reading (receivedAt (seconds 970)) ≡ 0)
     × (numberAt reading (receivedAt (seconds 970 - 1)) ≡ 15)
     × (isFar (reading .ntp) (reading .ntp) ≡ false)
+    × (numberAt reading (receivedAt (reading .ntp)) ≡ 17)
     × (numberAt reading (receivedAt (reading .ntp + 1)) ≡ 15)
 
 -- P1 with another RTP time

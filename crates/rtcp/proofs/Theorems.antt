@@ -1,9 +1,10 @@
--- What a caller may rely on, beyond each call's own contract: how the count, the item at an index and the cursor agree.
+-- What a caller may rely on, beyond each call's own contract: which numbers a refusal has, and how the count, the item
+-- at an index and the cursor agree.
 use Prim.Native.Nat.{ℕ, suc, zero, _+_, _-_, _*_, _%_, _≤_}
 use mathlib.Core.Path.{_≡_, refl, sym, ap, _∙_}
 use mathlib.Core.List.{List}
-use mathlib.Core.Logic.{_↔_}
-use mathlib.Core.Bool.{Bool, true, false, not, _&&_, _||_}
+use mathlib.Core.Logic.{_↔_, _⊎_, inl, inr}
+use mathlib.Core.Bool.{Bool, true, false, not, cond, _&&_, _||_}
 use lib.ListN.{length}
 use lib.Dec.{ltb, eqb}
 use native.Mathlib.Omega.{arith}
@@ -12,13 +13,15 @@ use Rattle.idms.specs.declared.Placed.{Placed}
 use Rattle.idms.specs.declared.Refusal.{Refusal}
 use Rattle.rtcp.specs.declared.walk.Count.{Count}
 use Rattle.idms.specs.declared.Found.{Found}
-use Rattle.rtcp.specs.Refusals.{Check, passed, refused, refuseIf, andThen}
+use Rattle.rtcp.specs.declared.cursor.Opened.{Opened}
+use Rattle.rtcp.specs.Refusals.{Check, passed, refused, refuseIf, andThen, DatagramNumber, noSuchItem, shortBuffer}
 use Rattle.rtcp.specs.Walk.{walking, walk, checks}
 use Rattle.rtcp.specs.Packet.{version, packetType, count, size, content, paddingIsBad, contentIsShort, opens, byType, headCheck}
 use Rattle.rtcp.specs.Report.{blockType, blockLength, blockSize, blockCheck}
 use Rattle.rtcp.specs.Datagram.{blocksCheck, packetCheck, packetItems, lengthIsBad, datagramCheck, datagramItems}
 use Rattle.rtcp.specs.Cursor.{start, given}
-use Rattle.rtcp.specs.Answers.{refusal, countOf, itemOf}
+use Rattle.rtcp.specs.Answers.{refusal, countOf, pick, found, itemOf, opened, openedOf}
+use Rattle.rtcp.specs.Rows.{tooShort, answered, rowsAnswer}
 use Rattle.rtcp.proofs.Laws.Types.{byType-xr, byType-unless-xr}
 use Rattle.rtcp.proofs.Laws.Walk.{gives-bound}
 use Rattle.rtcp.proofs.Laws.Packet.{check-passes, or-false}
@@ -28,15 +31,16 @@ use Rattle.rtcp.proofs.Laws.Cursor.{cursor-gives-items}
 
 -- ---- the numbers that a datagram is refused with are 1 to 7
 
-abbrev Numbered : Check → Type 0
-Numbered check = (number place : ℕ) → check ≡ refused number place → number ≤ 7
+abbrev pub Numbered : Check → Type 0
+Numbered check = (number place : ℕ) → check ≡ refused number place → DatagramNumber number
 
 passed-numbered : Numbered passed
 passed-numbered number place e = let z : _≡_ {A = ℕ} 0 1 = cc in absurd (omega arith)
 
-refuseIf-numbered : (t : Bool) (n p : ℕ) (later : Check) → n ≤ 7 → Numbered later → Numbered (refuseIf t n p later)
+refuseIf-numbered :
+    (t : Bool) (n p : ℕ) (later : Check) → DatagramNumber n → Numbered later → Numbered (refuseIf t n p later)
 refuseIf-numbered false n p later h rest number place e = rest number place e
-refuseIf-numbered true n p later h rest number place e = let same : n ≡ number = cc in omega arith
+refuseIf-numbered true n p later h rest number place e = let same : n ≡ number = cc in rw same at h
 
 andThen-numbered : (a b : Check) → Numbered a → Numbered b → Numbered (andThen a b)
 andThen-numbered passed b f g number place e = g number place e
@@ -62,17 +66,19 @@ checks-numbered check size stop place f = go (stop - place) place
 head-numbered : (d : List ℕ) (p : ℕ) → Numbered (headCheck d p)
 unfolding headCheck
 head-numbered d p =
-    refuseIf-numbered (not (eqb (version d p) 2)) 2 p _ (omega arith)
-    (refuseIf-numbered (ltb (length d) (p + size d p)) 2 p _ (omega arith)
-    (refuseIf-numbered (paddingIsBad d p) 3 p _ (omega arith)
-    (refuseIf-numbered (eqb p 0 && not (opens (packetType d p))) 4 p _ (omega arith)
-    (refuseIf-numbered (contentIsShort (packetType d p) (count d p) (content d p)) 5 p _ (omega arith) passed-numbered))))
+    refuseIf-numbered (not (eqb (version d p) 2)) 2 p _ (omega arith, omega arith)
+    (refuseIf-numbered (ltb (length d) (p + size d p)) 2 p _ (omega arith, omega arith)
+    (refuseIf-numbered (paddingIsBad d p) 3 p _ (omega arith, omega arith)
+    (refuseIf-numbered (eqb p 0 && not (opens (packetType d p))) 4 p _ (omega arith, omega arith)
+    (refuseIf-numbered (contentIsShort (packetType d p) (count d p) (content d p)) 5 p _ (omega arith, omega arith)
+    passed-numbered))))
 
 block-numbered : (d : List ℕ) (stop at : ℕ) → Numbered (blockCheck d stop at)
 unfolding blockCheck
 block-numbered d stop at =
-    refuseIf-numbered (ltb stop (at + blockSize d at)) 6 at _ (omega arith)
-    (refuseIf-numbered (eqb (blockType d at) 12 && not (eqb (blockLength d at) 7)) 7 at _ (omega arith) passed-numbered)
+    refuseIf-numbered (ltb stop (at + blockSize d at)) 6 at _ (omega arith, omega arith)
+    (refuseIf-numbered (eqb (blockType d at) 12 && not (eqb (blockLength d at) 7)) 7 at _ (omega arith, omega arith)
+    passed-numbered)
 
 packet-numbered : (d : List ℕ) (p : ℕ) → Numbered (packetCheck d p)
 unfolding packetCheck
@@ -89,15 +95,69 @@ packet-numbered d p = andThen-numbered (headCheck d p) _ (head-numbered d p) (go
 pub datagram-numbered : (d : List ℕ) → Numbered (datagramCheck d)
 unfolding datagramCheck
 datagram-numbered d =
-    refuseIf-numbered (lengthIsBad (length d)) 1 0 _ (omega arith)
+    refuseIf-numbered (lengthIsBad (length d)) 1 0 _ (omega arith, omega arith)
     (checks-numbered (packetCheck d) (size d) (length d) 0 (packet-numbered d))
 
--- ---- the count and the items agree
+-- ---- the numbers that the calls refuse with: 1 to 7, beside them 9 for an index and 10 for an array, and never 0
 
 -- the number of an answer's refusal, 0 where there is none
 abbrev numberOf : Found → ℕ
 numberOf (Found.Item x) = 0
 numberOf (Found.Refused r) = r .number
+
+numbered-as :
+    (number place : ℕ) (r : Refusal) → Numbered (refused number place) → refusal number place ≡ r
+    → DatagramNumber (r .number)
+numbered-as number place r h same = h (r .number) (r .place) (ap (λ (x : Refusal). refused (x .number) (x .place)) same)
+
+pub count-numbered : (d : List ℕ) (r : Refusal) → countOf d ≡ Count.Refused r → DatagramNumber (r .number)
+count-numbered d r e = datagram-numbered d (r .number) (r .place) (count-refused d r e)
+
+pub opened-numbered : (d : List ℕ) (r : Refusal) → openedOf d ≡ Opened.Refused r → DatagramNumber (r .number)
+unfolding openedOf
+opened-numbered d r e = go (datagramCheck d) (datagram-numbered d) e
+  where
+    go : (k : Check) → Numbered k → opened k (length (datagramItems d)) ≡ Opened.Refused r → DatagramNumber (r .number)
+    go passed h e = let z : _≡_ {A = ℕ} 0 1 = cc in absurd (omega arith)
+    go (refused number place) h e = numbered-as number place r h (cc)
+
+pub item-numbered :
+    (d : List ℕ) (index : ℕ) (r : Refusal) → itemOf d index ≡ Found.Refused r
+    → DatagramNumber (r .number) ⊎ (r .number ≡ noSuchItem)
+unfolding itemOf pick
+item-numbered d index r e = go (datagramCheck d) (datagram-numbered d) e
+  where
+    past :
+        (t : Bool) (x : Placed) → cond t (Found.Item x) (Found.Refused (refusal noSuchItem 0)) ≡ Found.Refused r
+        → r .number ≡ noSuchItem
+    past true x e = cc
+    past false x e = sym (ap numberOf e)
+
+    go :
+        (k : Check) → Numbered k → found k (datagramItems d) index ≡ Found.Refused r
+        → DatagramNumber (r .number) ⊎ (r .number ≡ noSuchItem)
+    go passed h e = inr (past (ltb index (length (datagramItems d))) _ e)
+    go (refused number place) h e = inl (numbered-as number place r h (cc))
+
+pub rows-numbered :
+    (d rows : List ℕ) (r : Refusal) → rowsAnswer d rows ≡ Count.Refused r
+    → DatagramNumber (r .number) ⊎ (r .number ≡ shortBuffer)
+unfolding rowsAnswer
+rows-numbered d rows r e = go (datagramCheck d) (datagram-numbered d) e
+  where
+    short :
+        (t : Bool) (n : ℕ) → cond t (Count.Refused (refusal shortBuffer 0)) (Count.Items n) ≡ Count.Refused r
+        → r .number ≡ shortBuffer
+    short true n e = let same : refusal shortBuffer 0 ≡ r = cc in sym (ap (λ (x : Refusal). x .number) same)
+    short false n e = cc
+
+    go :
+        (k : Check) → Numbered k → answered k (datagramItems d) rows ≡ Count.Refused r
+        → DatagramNumber (r .number) ⊎ (r .number ≡ shortBuffer)
+    go passed h e = inr (short (tooShort (length (datagramItems d)) rows) _ e)
+    go (refused number place) h e = inl (numbered-as number place r h (cc))
+
+-- ---- the count and the items agree
 
 -- the count with the refusal of an item's answer
 abbrev countRefused : Found → Count
@@ -145,7 +205,7 @@ nine-past-the-count d n index e = (there (ltb index n) refl, back)
     back : n ≤ index → itemOf d index ≡ Found.Refused (refusal 9 0)
     back h = item-past d index (known .0) (omega (arith, known .1))
 
--- No item comes from a refused datagram.
+-- No index gives an item of a refused datagram.
 pub no-item-of-a-refused : (d : List ℕ) (r : Refusal) (index : ℕ) (x : Placed) → countOf d ≡ Count.Refused r → itemOf d index ≡ Found.Item x → ⊥
 no-item-of-a-refused d r index x e f =
     let g : _ = item-refused d index (r .number) (r .place) (count-refused d r e) in

@@ -1,7 +1,7 @@
--- A cursor over the items of a datagram, and what it gives next. `open_datagram` gives a cursor to datagrams that are not
--- refused alone; from there, `cursor-in-turn` (proofs/Theorems.antt) says that it gives the datagram's items. A call has
--- no `requires`, so the definitions speak of every cursor: one of another datagram gives what it can read, whatever checks
--- that datagram fails, and ends where it cannot read on.
+-- A cursor over the items of a datagram, and what it gives next. `open_datagram` opens one only on a datagram that is
+-- not refused; from there, `cursor-in-turn` (proofs/Theorems.antt) says that it gives the datagram's items. A call has
+-- no `requires`, so the definitions speak of every cursor with every datagram. One that was opened on another datagram
+-- gives what it can read, which may be items of a datagram that is refused, and ends where it cannot read on.
 use Prim.Native.Nat.{ℕ, suc, zero, _+_, _-_, _*_}
 use mathlib.Core.List.{List, [], _∷_, _++_}
 use mathlib.Core.Bool.{Bool, not, cond, _&&_, _||_}

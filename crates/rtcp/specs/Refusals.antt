@@ -1,5 +1,5 @@
 -- The refusal numbers that reading gives (document 01, "Refusal numbers"), and what a check answers.
-use Prim.Native.Nat.{ℕ}
+use Prim.Native.Nat.{ℕ, _≤_}
 use mathlib.Core.Bool.{Bool, true, false}
 
 -- length is 0, not a multiple of 4, or over 2,048
@@ -29,6 +29,10 @@ blockPastEnd = 6
 -- block type 12 with block length other than 7
 abbrev pub badBlockLength : ℕ
 badBlockLength = 7
+
+-- the numbers that a datagram is refused with; 0 is none of them, and neither are 9 and 10
+abbrev pub DatagramNumber : ℕ → Type 0
+DatagramNumber n = (1 ≤ n) × (n ≤ 7)
 
 -- item index not below the item count
 abbrev pub noSuchItem : ℕ

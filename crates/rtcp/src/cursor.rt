@@ -1,4 +1,4 @@
-// A cursor over the items of a datagram.
+// A cursor over the items of the datagram that it was opened on.
 use crate::bytes::read32;
 use crate::packet::Head;
 use crate::packet::is_short;
@@ -174,7 +174,8 @@ fn stepped(d: &[u8], c: State) -> Advance
     }
 }
 
-// The next item of the datagram that the cursor was opened on and the cursor behind it, or the end.
+// The next item of the datagram that the cursor was opened on and the cursor behind it, or the end. With another
+// datagram it gives what can be read there, which may be an item of one that is refused: no check is asked again.
 pub fn next_item(d: &[u8], from: Cursor) -> Step
     ensures { λ r. ⌜ r ≡ nextOf (now (d .entry)) from ⌝ }
 {

@@ -1,3 +1,4 @@
 pub mod Laws
 pub mod WriteRead
 pub mod ReadWrite
+pub mod Refusals

@@ -23,7 +23,8 @@ use Rattle.rtcp.specs.Puts.{flat}
 use Rattle.rtcp.specs.Answers.{itemOf}
 use Rattle.rtcp.proofs.Laws.Blocks.{and-left, and-right}
 use Rattle.rtcp.proofs.Laws.ItemPlaces.{ReadFrom, report, setting, farewell, item-read}
-use Rattle.writer.specs.Messages.{bytes32, bytesOf, reportWords, settingsWords, reportIsUnwritable, settingsAreUnwritable, buffer}
+use Rattle.writer.specs.declared.Written.{Written}
+use Rattle.writer.specs.Messages.{bytes32, bytesOf, reportWords, settingsWords, reportIsUnwritable, settingsAreUnwritable, written, buffer}
 use Rattle.writer.specs.RoundTrip.{part, clearedReport, clearedSettings}
 use Rattle.writer.proofs.Laws.Words.{part-word, wordsAt, words-part, be64-high, be64-low}
 
@@ -157,15 +158,17 @@ pub report-writable :
     → reportIsUnwritable r ≡ eqb (r .group) 4294967295
 report-writable d index place r h e = read-report d index place r h e .group
 
--- Then, in every buffer of 40 bytes or more, the written block is the datagram's own 8 words at the item's place, cleared.
+-- Then, in every buffer of 40 bytes or more, the writer answers that it wrote 40 bytes, and the block among them is the
+-- datagram's own 8 words at the item's place, cleared.
 pub report-read-write :
     (d buf : List ℕ) (index place : ℕ) (r : Report) → AreBytes d
     → itemOf d index ≡ Found.Item (record { place = place; item = Item.Report r })
     → (r .group ≡ 4294967295 → ⊥) → 40 ≤ length buf
-    → part (buffer (reportIsUnwritable r) (reportWords r) buf) 8 32 ≡ clearedReport d place
+    → (written (reportIsUnwritable r) (reportWords r) buf ≡ Written.Bytes 40)
+    × (part (buffer (reportIsUnwritable r) (reportWords r) buf) 8 32 ≡ clearedReport d place)
 report-read-write d buf index place r h e g l =
     let known : ReadReport d place r = read-report d index place r h e in
-    rw (known .group, ne-eqb (r .group) 4294967295 g, le-ltb (length buf) 40 l) (known .block)
+    rw (known .group, ne-eqb (r .group) 4294967295 g, le-ltb (length buf) 40 l) (refl, known .block)
 
 -- ---- the settings
 
@@ -212,15 +215,16 @@ module _ (d : List ℕ) (p : ℕ) (h : AreBytes d) (v : version d p ≡ 2) (t : 
       ∷ 8
       ∷ (ap (flat bytes32) settings-words ∙ words-part d (p + 4) 8 h (omega arith)) i
 
--- In every buffer of 36 bytes or more, settings that were read and may be written are the packet's own 36 bytes at the
--- item's place, cleared.
+-- For settings that were read and may be written, in every buffer of 36 bytes or more: the writer answers that it wrote
+-- 36 bytes, and they are the packet's own at the item's place, cleared.
 pub settings-read-write :
     (d buf : List ℕ) (index place : ℕ) (s : Settings) → AreBytes d
     → itemOf d index ≡ Found.Item (record { place = place; item = Item.Settings s })
     → (s .group ≡ 4294967295 → ⊥) → 36 ≤ length buf
-    → take 36 (buffer (settingsAreUnwritable s) (settingsWords s) buf) ≡ clearedSettings d place
+    → (written (settingsAreUnwritable s) (settingsWords s) buf ≡ Written.Bytes 36)
+    × (take 36 (buffer (settingsAreUnwritable s) (settingsWords s) buf) ≡ clearedSettings d place)
 settings-read-write d buf index place s h e g l =
-    rw (ne-eqb (s .group) 4294967295 g, le-ltb (length buf) 36 l) (found (item-read d index _ e) refl)
+    rw (ne-eqb (s .group) 4294967295 g, le-ltb (length buf) 36 l) (refl, found (item-read d index _ e) refl)
   where
     found :
         {x : Placed} → ReadFrom d x → x ≡ record { place = place; item = Item.Settings s }

@@ -1,13 +1,15 @@
--- Demand 2, first half: what is written reads back as the same fields. The datagram is written out, so that the walk over
--- it computes; what is left is that four bytes spell their word.
-use Prim.Native.Nat.{ℕ, _+_, _*_, _/_, _%_, _^_}
+-- Demand 2, first half: what a writer leaves in the buffer reads back as the same fields. The datagram is written out,
+-- so that the walk over it computes; what is left is that four bytes spell their word.
+use Prim.Native.Nat.{ℕ, _+_, _*_, _/_, _%_, _^_, _≤_}
 use mathlib.Core.Path.{_≡_, refl, sym, ap, _∙_}
+use mathlib.Core.List.{List}
 use mathlib.Core.Bool.{Bool, true, false, cond}
+use lib.ListN.{length, take}
 use native.Mathlib.Omega.{arith}
+use borrow.Author.Tests.{le-ltb, ne-eqb}
 use Rattle.idms.specs.declared.Report.{Report}
 use Rattle.idms.specs.declared.Settings.{Settings}
 use Rattle.idms.specs.declared.Item.{Item}
-use Rattle.rtcp.specs.declared.walk.Count.{Count}
 use Rattle.idms.specs.declared.Found.{Found}
 use Rattle.rtcp.specs.Bytes.{joined, be16, be32, be64}
 use Rattle.rtcp.specs.Walk.{walking, walk}
@@ -16,8 +18,9 @@ use Rattle.rtcp.specs.Report.{blockCheck, reportAt, blockItems}
 use Rattle.rtcp.specs.Settings.{settingsAt}
 use Rattle.rtcp.specs.Datagram.{packetCheck, packetItems, datagramCheck, datagramItems}
 use Rattle.rtcp.specs.Answers.{countOf, itemOf, pick}
-use Rattle.writer.specs.Messages.{reportWords, settingsWords, reportIsUnwritable}
-use Rattle.writer.specs.RoundTrip.{behindRR, ReportFits, SettingsFit}
+use Rattle.writer.specs.declared.Written.{Written}
+use Rattle.writer.specs.Messages.{bytesOf, reportWords, settingsWords, reportIsUnwritable, settingsAreUnwritable, written, buffer}
+use Rattle.writer.specs.RoundTrip.{behindRR, GivesOne, ReportFits, SettingsFit}
 use Rattle.writer.proofs.Laws.Messages.{writable, writable-presented}
 use Rattle.writer.proofs.Laws.Words.{joined-bytes32, joined-halves}
 
@@ -56,9 +59,8 @@ reportIn r p =
 
 walk-report :
     (r : Report) (p : Bool) (ssrc : ℕ)
-    → (countOf (behindRR ssrc (reportWords (reportIn r p))) ≡ Count.Items 1)
-    × (itemOf (behindRR ssrc (reportWords (reportIn r p))) 0
-    ≡ Found.Item (record { place = 16; item = Item.Report (reportBack r p) }))
+    → GivesOne (behindRR ssrc (bytesOf (reportWords (reportIn r p))))
+    (record { place = 16; item = Item.Report (reportBack r p) })
 unfolding reportIn reportBack countOf itemOf pick datagramCheck datagramItems walk walking packetCheck packetItems headCheck paddingIsBad content byType contentIsShort blockCheck blockItems reportAt be16 be32 be64
 walk-report r true ssrc = (refl, refl)
 walk-report r false ssrc = (refl, refl)
@@ -84,15 +86,18 @@ same-report r fits h =
     shown true e = joined-bytes32 (r .presented) (fits .presented)
     shown false e = sym (writable-presented r h e)
 
--- For all fields that may be written, and whatever the RR's sender, the datagram has exactly one item, with these fields.
+-- For all fields that may be written, in every buffer of 40 bytes or more, and whatever the RR's sender: the writer
+-- answers that it wrote 40 bytes, and the buffer's first 40 give exactly one item, with these fields.
 pub report-write-read :
-    (r : Report) (ssrc : ℕ) → ReportFits r → reportIsUnwritable r ≡ false
-    → (countOf (behindRR ssrc (reportWords r)) ≡ Count.Items 1)
-    × (itemOf (behindRR ssrc (reportWords r)) 0 ≡ Found.Item (record { place = 16; item = Item.Report r }))
+    (r : Report) (buf : List ℕ) (ssrc : ℕ) → ReportFits r → reportIsUnwritable r ≡ false → 40 ≤ length buf
+    → (written (reportIsUnwritable r) (reportWords r) buf ≡ Written.Bytes 40)
+    × GivesOne (behindRR ssrc (take 40 (buffer (reportIsUnwritable r) (reportWords r) buf)))
+    (record { place = 16; item = Item.Report r })
 unfolding reportIn
-report-write-read r ssrc fits h =
+report-write-read r buf ssrc fits h l =
     let walked : _ = walk-report r (r .p) ssrc in
-    (walked .0, walked .1 ∙ ap (λ (x : Report). Found.Item (record { place = 16; item = Item.Report x })) (same-report r fits h))
+    let found : Report → Found = λ x. Found.Item (record { place = 16; item = Item.Report x }) in
+    rw (h, le-ltb (length buf) 40 l) (refl, (walked .0, walked .1 ∙ ap found (same-report r fits h)))
 
 -- ---- the settings
 
@@ -109,9 +114,7 @@ settingsBack s =
 
 walk-settings :
     (s : Settings) (ssrc : ℕ)
-    → (countOf (behindRR ssrc (settingsWords s)) ≡ Count.Items 1)
-    × (itemOf (behindRR ssrc (settingsWords s)) 0
-    ≡ Found.Item (record { place = 8; item = Item.Settings (settingsBack s) }))
+    → GivesOne (behindRR ssrc (bytesOf (settingsWords s))) (record { place = 8; item = Item.Settings (settingsBack s) })
 unfolding settingsBack countOf itemOf pick datagramCheck datagramItems walk walking packetCheck packetItems headCheck paddingIsBad content byType contentIsShort settingsAt be16 be32 be64
 walk-settings s ssrc = (refl, refl)
 
@@ -127,10 +130,14 @@ same-settings s fits =
       presented = joined-halves (s .presented) (fits .presented) i;
     }
 
+-- The same of settings: 36 bytes, for every group but 4,294,967,295.
 pub settings-write-read :
-    (s : Settings) (ssrc : ℕ) → SettingsFit s
-    → (countOf (behindRR ssrc (settingsWords s)) ≡ Count.Items 1)
-    × (itemOf (behindRR ssrc (settingsWords s)) 0 ≡ Found.Item (record { place = 8; item = Item.Settings s }))
-settings-write-read s ssrc fits =
+    (s : Settings) (buf : List ℕ) (ssrc : ℕ) → SettingsFit s → (s .group ≡ 4294967295 → ⊥) → 36 ≤ length buf
+    → (written (settingsAreUnwritable s) (settingsWords s) buf ≡ Written.Bytes 36)
+    × GivesOne (behindRR ssrc (take 36 (buffer (settingsAreUnwritable s) (settingsWords s) buf)))
+    (record { place = 8; item = Item.Settings s })
+settings-write-read s buf ssrc fits g l =
     let walked : _ = walk-settings s ssrc in
-    (walked .0, walked .1 ∙ ap (λ (x : Settings). Found.Item (record { place = 8; item = Item.Settings x })) (same-settings s fits))
+    let found : Settings → Found = λ x. Found.Item (record { place = 8; item = Item.Settings x }) in
+    rw (ne-eqb (s .group) 4294967295 g, le-ltb (length buf) 36 l)
+    (refl, (walked .0, walked .1 ∙ ap found (same-settings s fits)))

@@ -1,18 +1,27 @@
--- What demand 2 speaks of: a datagram that is judged, the ranges of the fields, and a datagram's own bytes with what is
--- not written back cleared.
+-- What demand 2 speaks of: a datagram that is judged and what it gives, the ranges of the fields, and a datagram's own
+-- bytes with what is not written back cleared.
 use Prim.Native.Nat.{ℕ, _+_, _*_, _/_, _%_, _^_, _<_}
+use mathlib.Core.Path.{_≡_}
 use mathlib.Core.List.{List, [], _∷_, _++_}
 use mathlib.Core.Bool.{cond}
 use lib.ListN.{take, drop}
 use Rattle.idms.specs.declared.Report.{Report}
 use Rattle.idms.specs.declared.Settings.{Settings}
+use Rattle.idms.specs.declared.Placed.{Placed}
+use Rattle.idms.specs.declared.Found.{Found}
+use Rattle.rtcp.specs.declared.walk.Count.{Count}
 use Rattle.rtcp.specs.Bytes.{byte}
 use Rattle.rtcp.specs.Report.{presents}
+use Rattle.rtcp.specs.Answers.{countOf, itemOf}
 use Rattle.writer.specs.Messages.{bytesOf}
 
 -- a packet read back is judged behind an 8-byte RR with count 0, whatever its sender
 abbrev pub behindRR : ℕ → List ℕ → List ℕ
-behindRR ssrc words = bytesOf (0x80C90001 ∷ ssrc ∷ words)
+behindRR ssrc bytes = bytesOf (0x80C90001 ∷ ssrc ∷ []) ++ bytes
+
+-- exactly one item is read from a datagram, and it is this one
+abbrev pub GivesOne : List ℕ → Placed → Type 0
+GivesOne d x = (countOf d ≡ Count.Items 1) × (itemOf d 0 ≡ Found.Item x)
 
 -- the ranges of the fields' types
 pub record ReportFits (r : Report) : Type 0 where

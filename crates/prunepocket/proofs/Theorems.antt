@@ -1,0 +1,182 @@
+-- What C may rely on, beyond each call's own contract: the number of the answer is 0 exactly where the call was not
+-- refused. Each statement is of the answer as the call's contract has it.
+use Prim.Native.Nat.{ℕ, _≤_}
+use mathlib.Core.Path.{_≡_, refl, ap, _∙_}
+use mathlib.Core.List.{List, [], _∷_}
+use mathlib.Core.Bool.{Bool, true, false}
+use mathlib.Core.Logic.{_↔_, _⊎_, inl, inr, ⊎-elim}
+use lib.ListN.{length}
+use lib.Dec.{ltb}
+use lib.IntN.{ℤ}
+use native.Mathlib.Omega.{arith}
+use borrow.Author.Tests.{ltb-true, ltb-false}
+use Rattle.idms.specs.Rows.{fieldOf}
+use Rattle.idms.specs.declared.Field.{Field}
+use Rattle.idms.specs.declared.Found.{Found}
+use Rattle.idms.specs.declared.Placed.{Placed}
+use Rattle.idms.specs.declared.Refusal.{Refusal}
+use Rattle.origin.specs.declared.Origin.{Origin}
+use Rattle.register.specs.declared.Choice.{Choice}
+use Rattle.register.specs.declared.Reading.{Reading}
+use Rattle.register.specs.declared.Record.{Record}
+use Rattle.register.specs.declared.Target.{Target}
+use Rattle.register.specs.Register.{Rows, Call}
+use Rattle.rtcp.specs.declared.walk.Count.{Count}
+use Rattle.rtcp.specs.Refusals.{Check, passed, refused, DatagramNumber, shortBuffer}
+use Rattle.rtcp.specs.Datagram.{datagramCheck, datagramItems}
+use Rattle.rtcp.specs.Answers.{countOf, itemOf}
+use Rattle.rtcp.specs.Rows.{rowsAnswer}
+use Rattle.rtcp.proofs.Theorems.{Numbered, datagram-numbered, count-numbered, item-numbered, rows-numbered}
+use Rattle.writer.specs.declared.Written.{Written}
+use Rattle.writer.specs.Messages.{written}
+use Rattle.writer.proofs.Refusals.{written-numbered}
+use Rattle.table.specs.declared.Table.{Table}
+use Rattle.table.specs.Choose.{led, choiceAmong, choiceOf}
+use Rattle.intake.specs.Feeding.{callsIn, called, fedBy, fed}
+use Rattle.prunepocket.specs.declared.Answer.{Answer}
+use Rattle.prunepocket.specs.Answers.{countAnswer, cellAnswer, fieldAnswer}
+use Rattle.prunepocket.specs.Messages.{writeAnswer, Wrote}
+use Rattle.prunepocket.specs.Following.{followedOf}
+
+-- ---- the calls that read
+
+count-accepted :
+    (c : Count) → ((r : Refusal) → c ≡ Count.Refused r → 1 ≤ r .number)
+    → (countAnswer c .number ≡ 0) ↔ ((n : ℕ) × (c ≡ Count.Items n))
+count-accepted (Count.Items n) h = ((λ e. (n, refl)), λ s. refl)
+count-accepted (Count.Refused r) h = ((λ e. absurd (omega (arith, h r refl))), λ s. let e : _ = s .1 in cc)
+
+-- prunepocket_count_items
+pub count-items-accepted :
+    (d : List ℕ) → (countAnswer (countOf d) .number ≡ 0) ↔ ((n : ℕ) × (countOf d ≡ Count.Items n))
+count-items-accepted d = count-accepted (countOf d) (λ r e. count-numbered d r e .0)
+
+-- prunepocket_read_items
+pub read-items-accepted :
+    (d rows : List ℕ) → (countAnswer (rowsAnswer d rows) .number ≡ 0) ↔ ((n : ℕ) × (rowsAnswer d rows ≡ Count.Items n))
+read-items-accepted d rows =
+    count-accepted (rowsAnswer d rows) (λ r e. ⊎-elim (λ z. z .0) (λ z. omega arith) (rows-numbered d rows r e))
+
+field-accepted :
+    (f : Found) (field : ℕ) → ((r : Refusal) → f ≡ Found.Refused r → 1 ≤ r .number)
+    → (fieldAnswer f field .number ≡ 0)
+    ↔ ((x : Placed) × (v : ℕ) × (f ≡ Found.Item x) × (fieldOf x field ≡ Field.Value v))
+field-accepted (Found.Refused r) field h = ((λ e. absurd (omega (arith, h r refl))), λ s. let e : _ = s .2 in cc)
+field-accepted (Found.Item x) field h = (there (fieldOf x field) refl, back)
+  where
+    there :
+        (t : Field) → fieldOf x field ≡ t → cellAnswer (fieldOf x field) .number ≡ 0
+        → (y : Placed) × (v : ℕ) × (Found.Item x ≡ Found.Item y) × (fieldOf y field ≡ Field.Value v)
+    there (Field.Value v) e z = (x, v, refl, e)
+    there Field.Absent e z = absurd (omega (arith, rw e at z))
+
+    back :
+        (y : Placed) × (v : ℕ) × (Found.Item x ≡ Found.Item y) × (fieldOf y field ≡ Field.Value v)
+        → cellAnswer (fieldOf x field) .number ≡ 0
+    back s =
+        let items : Found.Item x ≡ Found.Item (s .0) = s .2 in
+        let same : x ≡ s .0 = cc in
+        let value : fieldOf x field ≡ Field.Value (s .1) = ap (λ (y : Placed). fieldOf y field) same ∙ s .3 in
+        ap (λ (t : Field). cellAnswer t .number) value
+
+-- prunepocket_item_field
+pub item-field-accepted :
+    (d : List ℕ) (index field : ℕ)
+    → (fieldAnswer (itemOf d index) field .number ≡ 0)
+    ↔ ((x : Placed) × (v : ℕ) × (itemOf d index ≡ Found.Item x) × (fieldOf x field ≡ Field.Value v))
+item-field-accepted d index field =
+    field-accepted (itemOf d index) field (λ r e. ⊎-elim (λ z. z .0) (λ z. omega arith) (item-numbered d index r e))
+
+-- ---- the calls that write
+
+write-accepted :
+    (w : Written) → ((n : ℕ) → w ≡ Written.Refused n → (n ≡ 11) ⊎ (n ≡ 10))
+    → (writeAnswer w .number ≡ 0) ↔ ((n : ℕ) × (w ≡ Written.Bytes n))
+write-accepted (Written.Bytes n) h = ((λ e. (n, refl)), λ s. refl)
+write-accepted (Written.Refused n) h =
+    ((λ e. absurd (⊎-elim (λ z. omega arith) (λ z. omega arith) (h n refl))), λ s. let e : _ = s .1 in cc)
+
+-- prunepocket_write_report and prunepocket_write_settings
+pub wrote-accepted :
+    {unwritable : Bool} {words buf : List ℕ} {count : ℕ} {answer : Answer} {buf′ : List ℕ} {count′ : ℕ}
+    → Wrote unwritable words buf count answer buf′ count′
+    → (answer .number ≡ 0) ↔ ((n : ℕ) × (written unwritable words buf ≡ Written.Bytes n))
+wrote-accepted {unwritable} {words} {buf} w =
+    rw (w .answers) (write-accepted (written unwritable words buf) (written-numbered unwritable words buf))
+
+-- ---- a datagram taken in
+
+module _ (t : Table) (calls : List Call) (answers : List ℕ) where
+  fed-accepted :
+      (k : Check) → Numbered k
+      → (fedBy k t calls answers .number ≡ 0) ↔ ((k ≡ passed) × (length calls ≤ length answers))
+  fed-accepted (refused number place) h =
+      ((λ e. absurd (omega (arith, h number place refl .0))), λ s. let e : _ = s .0 in cc)
+  fed-accepted passed h = go (ltb (length answers) (length calls)) refl
+    where
+      go :
+          (b : Bool) → ltb (length answers) (length calls) ≡ b
+          → (called t calls answers .number ≡ 0) ↔ ((passed ≡ passed) × (length calls ≤ length answers))
+      go true b =
+          let short : _ = ltb-true (length answers) (length calls) b in
+          ((λ e. absurd (omega (arith, rw b at e))), λ s. absurd (omega (arith, s .1)))
+      go false b = ((λ e. (refl, ltb-false (length answers) (length calls) b)), λ s. rw b)
+
+  fed-numbered :
+      (k : Check) → Numbered k
+      → (fedBy k t calls answers .number ≡ 0)
+      ⊎ DatagramNumber (fedBy k t calls answers .number)
+      ⊎ (fedBy k t calls answers .number ≡ shortBuffer)
+  fed-numbered (refused number place) h = inr (inl (h number place refl))
+  fed-numbered passed h = go (ltb (length answers) (length calls)) refl
+    where
+      go :
+          (b : Bool) → ltb (length answers) (length calls) ≡ b
+          → (called t calls answers .number ≡ 0)
+          ⊎ DatagramNumber (called t calls answers .number)
+          ⊎ (called t calls answers .number ≡ shortBuffer)
+      go true b = rw b (inr (inr refl))
+      go false b = rw b (inl refl)
+
+-- prunepocket_take_datagram: 0 exactly where the datagram is not refused and the list is long enough
+module _ (t : Table) (d : List ℕ) (origin : Origin) (at : Reading) (answers : List ℕ) where
+  pub take-datagram-accepted :
+      (fed t d origin at answers .number ≡ 0)
+      ↔ ((datagramCheck d ≡ passed) × (length (callsIn origin at (datagramItems d)) ≤ length answers))
+  unfolding fed
+  take-datagram-accepted =
+      fed-accepted t (callsIn origin at (datagramItems d)) answers (datagramCheck d) (datagram-numbered d)
+
+  -- else 1 to 7, or 10
+  pub take-datagram-numbered :
+      (fed t d origin at answers .number ≡ 0)
+      ⊎ DatagramNumber (fed t d origin at answers .number)
+      ⊎ (fed t d origin at answers .number ≡ shortBuffer)
+  unfolding fed
+  take-datagram-numbered =
+      fed-numbered t (callsIn origin at (datagramItems d)) answers (datagramCheck d) (datagram-numbered d)
+
+-- ---- choosing
+
+led-numbered : (late : Record → ℤ) (count : ℕ) (rows : Rows) (n : ℕ) → led late count rows ≡ Choice.Refused n → n ≡ 20
+unfolding led
+led-numbered late count [] n e = cc
+led-numbered late count (row ∷ rows) n e = let z : _≡_ {A = ℕ} 0 1 = cc in absurd (omega arith)
+
+-- A choice is refused with 20 alone, for every table value.
+pub choice-numbered : (t : Table) (at : Reading) (n : ℕ) → choiceOf t at ≡ Choice.Refused n → n ≡ 20
+unfolding choiceOf choiceAmong
+choice-numbered t at n e = led-numbered _ _ _ n e
+
+followed-accepted :
+    (c : Choice) (t : Table) → ((n : ℕ) → c ≡ Choice.Refused n → n ≡ 20)
+    → (followedOf c t .number ≡ 0) ↔ ((x : Target) × (c ≡ Choice.Target x))
+unfolding followedOf
+followed-accepted (Choice.Target x) t h = ((λ e. (x, refl)), λ s. refl)
+followed-accepted (Choice.Refused n) t h = ((λ e. absurd (omega (arith, h n refl))), λ s. let e : _ = s .1 in cc)
+
+-- prunepocket_choose
+pub choose-accepted :
+    (t : Table) (at : Reading)
+    → (followedOf (choiceOf t at) t .number ≡ 0) ↔ ((x : Target) × (choiceOf t at ≡ Choice.Target x))
+choose-accepted t at = followed-accepted (choiceOf t at) t (choice-numbered t at)
