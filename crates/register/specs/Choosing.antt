@@ -13,9 +13,10 @@ use Rattle.register.specs.declared.Target.{Target}
 use Rattle.register.specs.declared.Choice.{Choice}
 use Rattle.register.specs.Register.{Opening, Rows, keep, some, presents, freshAt}
 
--- lateness, in units of 1/(rate × 2^32) s: rate × (delay − NTP age) + RTP age × 2^32, a signed number
-unfoldable pub lateness : ℕ → ℕ → ℕ → ℕ → ℤ
-lateness rate delay ntpAge rtpAge = pos rate *ℤ subℕ delay ntpAge +ℤ pos (rtpAge * 2 ^ 32)
+-- lateness, in units of 1/(rate × 2^32) s: rate × (delay − NTP age) + RTP age × 2^32, a signed number. `wait` is the delay
+-- here, `age` the NTP age and `ticks` the RTP age.
+unfoldable pub lateness : (rate wait age ticks : ℕ) → ℤ
+lateness rate wait age ticks = pos rate *ℤ subℕ wait age +ℤ pos (ticks * 2 ^ 32)
 
 -- the fresh rows
 abbrev pub fresh : Opening → Reading → Rows → Rows

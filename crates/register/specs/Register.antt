@@ -42,7 +42,7 @@ unfoldable pub some : {A : Type 0} → (A → Bool) → List A → Bool
 some test [] = false
 some test (x ∷ xs) = test x || some test xs
 
--- P 1
+-- P 1, which any number but 0 stands for
 abbrev pub presents : Record → Bool
 presents row = not (eqb (row .report .p) 0)
 

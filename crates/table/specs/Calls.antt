@@ -26,7 +26,7 @@ opened o = cond (isRefusedOpening o) (record { number = 12; table = noTable }) (
 abbrev pub isMember : Table → ℕ → Bool
 isMember t source = ltb (placeIn t source) 64
 
--- a member stands at a place, with another origin
+-- a place below 64 whose record has another origin, whether or not the place is held: a number's own place is
 abbrev pub elsewhereAt : Rows → ℕ → Origin → Bool
 elsewhereAt members place origin = ltb place 64 && not (sameOrigin (getD members place nowhere .origin) origin)
 

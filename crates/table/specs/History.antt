@@ -1,5 +1,13 @@
 -- Demand 3 as a statement: any list of calls from the table that opening returned, each call given the table that the one
 -- before handed back.
+--
+-- To be believed, besides what stands here: of `times` Times and of `origin` Origins; of `register` the records (src/lib.rt),
+-- Register (the paper's plain register), Letter (the letter's sentences on members, twins and refusals), Choosing and
+-- Promise (what is chosen, and what is promised of it).
+-- No belief needs what the contracts tie to code: `opened`, `answered`, `chosenOf`, `seatAt` and `countOf` are what
+-- `Table::open`, `report`, `farewell`, `sweep`, `choose`, `member_at` and `count` answer, whatever they say; nor what lies
+-- below them (Members, Calls, Choose, Leader, Lateness). `opening` and `members` of `Agree` look into the table, and say
+-- nothing that the fields behind them do not say of the public calls; the proofs above use them.
 use Prim.Native.Nat.{ℕ}
 use mathlib.Core.Path.{_≡_}
 use mathlib.Core.List.{List, [], _∷_, List·Memᴰ, List·Permᴰ}

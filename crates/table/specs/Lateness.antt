@@ -20,8 +20,8 @@ use Rattle.table.specs.Members.{rowsAt, nowhere}
 use Rattle.table.specs.Choose.{led}
 
 -- lateness and 30 s more, which for a fresh row is not below 0: rate × (delay + 30 s − NTP age) + RTP age × 2^32
-unfoldable pub biased : ℕ → ℕ → ℕ → ℕ → ℕ
-biased rate delay ntpAge rtpAge = rate * (delay + 30 * 2 ^ 32 - ntpAge) + rtpAge * 2 ^ 32
+unfoldable pub biased : (rate wait age ticks : ℕ) → ℕ
+biased rate wait age ticks = rate * (wait + 30 * 2 ^ 32 - age) + ticks * 2 ^ 32
 
 abbrev pub biasedOf : ℕ → Reading → Record → ℕ
 biasedOf rate at row =

@@ -1,5 +1,5 @@
--- An answer found by tests in turn means what the lines of the table of refusals say, where each test is true exactly if
--- its line applies; and the tests of opening, reports and farewells are such tests.
+-- An answer found by tests in turn means what the lines of the table of refusals say, where each test is true exactly
+-- if its line applies.
 use Prim.Native.Nat.{ℕ, _<_}
 use mathlib.Core.Bool.{Bool, true, false, not, cond, _&&_, _||_, and-eq-true-iff}
 use mathlib.Core.List.{List, [], _∷_, List·Memᴰ, List·Memᴰ·head, List·Memᴰ·tail, List·Memᴰ·not-nil}
@@ -63,7 +63,10 @@ tells-some {A} test (y ∷ ys) = go (test y) refl (tells-some test ys)
         (t : Bool) → test y ≡ t → Tells (some test ys) ((x : A) × List·Memᴰ x ys × (test x ≡ true)) →
         Tells (t || some test ys) ((x : A) × List·Memᴰ x (y ∷ ys) × (test x ≡ true))
     go true e rest = (λ z. (y, List·Memᴰ·head refl, e), λ found. refl)
-    go false e rest = (λ z. let found : _ = rest .0 z in (found .0, List·Memᴰ·tail (found .1), found .2), λ found. behind (found .0) (found .1) (found .2))
+    go false e rest = (
+      λ z. let found : _ = rest .0 z in (found .0, List·Memᴰ·tail (found .1), found .2),
+      λ found. behind (found .0) (found .1) (found .2),
+    )
       where
         behind : (x : A) → List·Memᴰ x (y ∷ ys) → test x ≡ true → some test ys ≡ true
         behind x (List·Memᴰ·head q) f = clash (sym e ∙ ap test (sym q) ∙ f)

@@ -46,7 +46,9 @@ split-last :
     (h : History) (e : Event) (before : History) (r : Event) (behind : History) →
     h ++ (e ∷ []) ≡ before ++ (r ∷ behind) → Split h e before r behind
 split-last [] e [] r behind p = let same : e ≡ r = cc in let rest : [] ≡ behind = cc in here refl same (sym rest)
-split-last [] e (b ∷ before) r behind p = let rest : [] ≡ before ++ (r ∷ behind) = cc in absurd (no-cons before r behind rest)
+split-last [] e (b ∷ before) r behind p =
+    let rest : [] ≡ before ++ (r ∷ behind) = cc in
+    absurd (no-cons before r behind rest)
 split-last (x ∷ h) e [] r behind p =
     let same : x ≡ r = cc in
     let rest : h ++ (e ∷ []) ≡ behind = cc in
@@ -79,7 +81,8 @@ abbrev pub StandsAfter : Opening → History → Event → Record → Type 0
 StandsAfter o h e x =
     ((at : Reading) × (e ≡ got (Call.report x at) 0)) ⊎ (Stands o h x × (Ends o x e → ⊥))
 
-pub stands-more : (o : Opening) (h : History) (e : Event) (x : Record) → Stands o (h ++ (e ∷ [])) x ↔ StandsAfter o h e x
+pub stands-more :
+    (o : Opening) (h : History) (e : Event) (x : Record) → Stands o (h ++ (e ∷ [])) x ↔ StandsAfter o h e x
 stands-more o h e x = (earlier, ⊎-elim anew still)
   where
     earlier : Stands o (h ++ (e ∷ [])) x → StandsAfter o h e x
@@ -140,7 +143,10 @@ OwnOrOther x y rows = (y ≡ x) ⊎ (List·Memᴰ y rows × (y .source ≡ x .so
 pub member-renewed :
     (x y : Record) (rows : Rows) → Unique rows → List·Memᴰ y (renewed rows x) ↔ OwnOrOther x y rows
 unfolding renewed
-member-renewed x y [] u = (λ m. inl (List·Memᴰ·eq-of-singleton m), ⊎-elim List·Memᴰ·head (λ both. absurd (List·Memᴰ·not-nil (both .0))))
+member-renewed x y [] u = (
+  λ m. inl (List·Memᴰ·eq-of-singleton m),
+  ⊎-elim List·Memᴰ·head (λ both. absurd (List·Memᴰ·not-nil (both .0))),
+)
 member-renewed x y (r ∷ rows) u = go (hasNumber (x .source) r) refl (member-renewed x y rows (unique-rest r rows u))
   where
     go :
@@ -162,7 +168,8 @@ member-renewed x y (r ∷ rows) u = go (hasNumber (x .source) r) refl (member-re
       where
         kept : List·Memᴰ y (r ∷ renewed rows x) → OwnOrOther x y (r ∷ rows)
         kept (List·Memᴰ·head q) =
-            inr (List·Memᴰ·head q, λ f. eqb-false (r .source) (x .source) e (ap (λ (z : Record). z .source) (sym q) ∙ f))
+            let source : r .source ≡ y .source = ap (λ (z : Record). z .source) (sym q) in
+            inr (List·Memᴰ·head q, λ f. eqb-false (r .source) (x .source) e (source ∙ f))
         kept (List·Memᴰ·tail m) = ⊎-elim inl (λ both. inr (List·Memᴰ·tail (both .0), both .1)) (rest .0 m)
 
         other : List·Memᴰ y (r ∷ rows) → (y .source ≡ x .source → ⊥) → List·Memᴰ y (r ∷ renewed rows x)

@@ -23,10 +23,16 @@ use Rattle.register.proofs.Letter.Members.{alone}
 
 -- ---- what the tests on a report's own fields tell
 
-pub tells-other-stream : (o : Opening) (x : Record) → Tells (isOtherStream o (x .report .group) (x .report .media)) (OtherStream o x)
-tells-other-stream o x =
-    tells-not _
-    (tells-and _ _ (tells-equal (x .report .group) (o .group)) (tells-equal (x .report .media) (o .media)))
+tells-own-stream :
+    (o : Opening) (x : Record) →
+    Tells (eqb (x .report .group) (o .group) && eqb (x .report .media) (o .media))
+    ((x .report .group ≡ o .group) × (x .report .media ≡ o .media))
+tells-own-stream o x =
+    tells-and _ _ (tells-equal (x .report .group) (o .group)) (tells-equal (x .report .media) (o .media))
+
+pub tells-other-stream :
+    (o : Opening) (x : Record) → Tells (isOtherStream o (x .report .group) (x .report .media)) (OtherStream o x)
+tells-other-stream o x = tells-not _ (tells-own-stream o x)
 
 pub tells-fresh : (o : Opening) (at : Reading) (x : Record) → Tells (freshAt o at x) (Fresh o at x)
 tells-fresh o at x = tells-and _ _ (tells-not _ (tells-less _ _)) (tells-not _ (tells-less _ _))
@@ -37,9 +43,7 @@ tells-origin a b = (same-origin-equal a b, λ e. rw e (equal-same-origin b))
 -- a report that is not of another stream is of this one
 pub own-stream :
     (o : Opening) (x : Record) → (OtherStream o x → ⊥) → (x .report .group ≡ o .group) × (x .report .media ≡ o .media)
-own-stream o x own =
-    let both : _ = tells-and _ _ (tells-equal (x .report .group) (o .group)) (tells-equal (x .report .media) (o .media)) in
-    both .0 (stable _ both own)
+own-stream o x own = tells-own-stream o x .0 (stable _ (tells-own-stream o x) own)
 
 pub tells-badly-presented :
     (x : Record) →
@@ -102,7 +106,9 @@ module _ (o : Opening) (h : History) (rows : Rows) (all : AreAll o h rows) where
       let none : _ = tells-not _ (tells-held source) in
       (λ e x s f. none .0 e (x, s, f), λ free. none .1 (λ found. free (found .0) (found .1) (found .2)))
 
-  tells-elsewhere : (source : ℕ) (origin : Origin) → Tells (isHeldElsewhere rows source origin) (HeldElsewhere o h source origin)
+  tells-elsewhere :
+      (source : ℕ) (origin : Origin) →
+      Tells (isHeldElsewhere rows source origin) (HeldElsewhere o h source origin)
   tells-elsewhere source origin = (
     λ e. let found : _ = tells-some there rows .0 e in
         let both : _ = own (found .0) .0 (found .2) in
@@ -114,7 +120,10 @@ module _ (o : Opening) (h : History) (rows : Rows) (all : AreAll o h rows) where
       there : Record → Bool
       there row = hasNumber source row && not (sameOrigin (row .origin) origin)
 
-      own : (x : Record) → Tells (hasNumber source x && not (sameOrigin (x .origin) origin)) ((x .source ≡ source) × (x .origin ≡ origin → ⊥))
+      own :
+          (x : Record) →
+          Tells (hasNumber source x && not (sameOrigin (x .origin) origin))
+          ((x .source ≡ source) × (x .origin ≡ origin → ⊥))
       own x = tells-and _ _ (tells-equal (x .source) source) (tells-not _ (tells-origin (x .origin) origin))
 
   tells-no-room : (source : ℕ) → Tells (hasNoRoom rows source) (NoRoom o h source)

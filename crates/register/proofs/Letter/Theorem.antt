@@ -61,7 +61,8 @@ module _ (o : Opening) (h : History) (rows : Rows) (all : AreAll o h rows) where
         inr (all .each y .0 (kept .1), λ ends. ends (tells-fresh o at y .0 (kept .0))),
     ⊎-elim
         (λ by. let told : got (Call.sweep at) 0 ≡ got (Call.report y (by .0)) 0 = by .1 in never told)
-        (λ s. member-kept (freshAt o at) y rows (stable (freshAt o at y) (tells-fresh o at y) (s .1)) (all .each y .1 (s .0))),
+        (λ s.
+        member-kept (freshAt o at) y rows (stable _ (tells-fresh o at y) (s .1)) (all .each y .1 (s .0))),
   )
     where
       never : {at′ : Reading} {A : Type 0} → got (Call.sweep at) 0 ≡ got (Call.report y at′) 0 → A
@@ -82,12 +83,15 @@ after-refused : (o : Opening) (rows : Rows) (call : Call) → (answer o rows cal
 unfolding after
 after-refused o rows call h = rw (ne-eqb (answer o rows call) 0 h) refl
 
-after-accepted : (o : Opening) (rows : Rows) (call : Call) → answer o rows call ≡ 0 → after o rows call ≡ accepted o rows call
+after-accepted :
+    (o : Opening) (rows : Rows) (call : Call) → answer o rows call ≡ 0 → after o rows call ≡ accepted o rows call
 unfolding after
 after-accepted o rows call e = rw (eq-eqb (answer o rows call) 0 e) refl
 
 -- refused, a call ends no standing
-ends-accepted : (o : Opening) (rows : Rows) (call : Call) (y : Record) → (answer o rows call ≡ 0 → ⊥) → Ends o y (got call (answer o rows call)) → ⊥
+ends-accepted :
+    (o : Opening) (rows : Rows) (call : Call) (y : Record) → (answer o rows call ≡ 0 → ⊥) →
+    Ends o y (got call (answer o rows call)) → ⊥
 unfolding answer
 ends-accepted o rows (Call.report x at) y h ends = h (ends .1)
 ends-accepted o rows (Call.farewell source origin) y h ends = h (ends .1)
@@ -146,10 +150,11 @@ told-more o h rows told call =
 
 -- a twin's call is refused, by its lines
 twin-refused :
-    (o : Opening) (h : History) (call : Call) (number : ℕ) → Means (linesOf o h call) number → (x : Record) → Stands o h x →
-    IsTwins x call → TwinGets o call number × (number ≡ 0 → ⊥)
+    (o : Opening) (h : History) (call : Call) (number : ℕ) → Means (linesOf o h call) number →
+    (x : Record) → Stands o h x → IsTwins x call → TwinGets o call number × (number ≡ 0 → ⊥)
 unfolding linesOf MeansFrom
-twin-refused o h (Call.report y at) number means x s twin = (gets, go (isOtherStream o (y .report .group) (y .report .media)) (tells-other-stream o y))
+twin-refused o h (Call.report y at) number means x s twin =
+    (gets, go (isOtherStream o (y .report .group) (y .report .media)) (tells-other-stream o y))
   where
     elsewhere : HeldElsewhere o h (y .source) (y .origin)
     elsewhere = (x, s, sym (twin .0), λ e. twin .1 (sym e))
@@ -174,7 +179,8 @@ Says o h call number =
     ((x : Record) → IsRow o h x → IsTwins x call → TwinGets o call number × IsRow o (h ++ (got call number ∷ [])) x)
     × Means (linesOf o h call) number
 
-says-next : (o : Opening) (h : History) (rows : Rows) → Told o h rows → (call : Call) → Says o h call (answer o rows call)
+says-next :
+    (o : Opening) (h : History) (rows : Rows) → Told o h rows → (call : Call) → Says o h call (answer o rows call)
 says-next o h rows told call = (twins, means)
   where
     means : Means (linesOf o h call) (answer o rows call)
@@ -200,7 +206,7 @@ follows o h rows (call ∷ calls) told each =
     let next : _ =
     follows o (h ++ (got call (answer o rows call) ∷ [])) (after o rows call) calls (told-more o h rows told call)
     (each-more (Says o) h call (answer o rows call) each (says-next o h rows told call)) in
-    rw (append-assoc h (got call (answer o rows call) ∷ []) (history calls (answers o (after o rows call) calls))) at next
+    rw (append-assoc h (got call (answer o rows call) ∷ []) _) at next
 
 told-none : (o : Opening) → Told o [] []
 unfolding keep madeIn afterAll
