@@ -1,15 +1,15 @@
 -- Every row of the register stands on an accepted report, and so on one that passed its checks.
 use Prim.Native.Nat.{ℕ, suc, _^_, _<_}
 use mathlib.Core.Bool.{Bool, true, false, cond, _&&_}
-use mathlib.Core.List.{List, [], _∷_, _++_, List·Memᴰ}
-use mathlib.Core.Path.{_≡_, refl}
+use mathlib.Core.List.{List, [], _∷_, _++_, append-nil, List·Memᴰ}
+use mathlib.Core.Path.{_≡_, refl, sym}
 use native.Mathlib.Omega.{arith}
 use Rattle.times.specs.Times.{isFar, isAged, isBadlyPresented}
 use Rattle.register.specs.declared.Record.{Record}
 use Rattle.register.specs.declared.Reading.{Reading}
 use Rattle.register.specs.Register.{Opening, Rows, Call, presents, isOtherStream, reportChecks, answers, afterAll}
 use Rattle.register.specs.Promise.{InRange, AllInRange}
-use Rattle.register.specs.Letter.{got, History, history, madeIn, OtherStream, BadlyPresented, Stands, linesOf, MeansFrom, Means}
+use Rattle.register.specs.Letter.{got, History, history, madeIn, OtherStream, BadlyPresented, Stands, linesOf, NoneOf, MeansBehind, Means}
 use Rattle.register.proofs.Letter.Lines.{untold}
 use Rattle.register.proofs.Letter.Tests.{own-stream, tells-badly-presented}
 use Rattle.register.proofs.Letter.Theorem.{made-of, letter}
@@ -61,22 +61,22 @@ range-in h (got first n ∷ before) call number behind ranges e =
 accepted-sound :
     (o : Opening) (h : History) (x : Record) (at : Reading) → Means (linesOf o h (Call.report x at)) 0 →
     x .report .received < 2 ^ 64 → SoundRow o x
-unfolding linesOf MeansFrom
+unfolding linesOf NoneOf MeansBehind
 accepted-sound o h x at means range =
     let none : _ = means .1 .1 .1 .1 .1 .1 .0 refl in
-    let own : _ = own-stream o x (none .0 .0 .0 .0 .0 .1) in
+    let own : _ = own-stream o x (none .0) in
     record {
       group = own .0;
       media = own .1;
       range = range;
-      presented = untold _ (tells-badly-presented x) (none .0 .1);
+      presented = untold _ (tells-badly-presented x) (none .1 .1 .1 .1 .0);
     }
 
 pub sound-rows : (o : Opening) (calls : List Call) → AllInRange calls → Sound o (afterAll o [] calls)
 sound-rows o calls ranges row member =
     let h : History = history calls (answers o [] calls) in
     let made : madeIn h ≡ calls = made-of o [] calls in
-    let s : Stands o h row = letter o calls .stands row .0 (rw made member) in
-    let means : _ = letter o calls .answers (s .before) (Call.report row (s .at)) 0 (s .behind) (s .accepted) in
+    let s : Stands o h row = letter o calls .members h [] (sym (append-nil h)) row .0 (rw made member) in
+    let means : _ = letter o calls .refusals (s .before) (Call.report row (s .at)) 0 (s .behind) (s .reported) in
     accepted-sound o (s .before) row (s .at) means
-    (range-in h (s .before) (Call.report row (s .at)) 0 (s .behind) (rw made ranges) (s .accepted))
+    (range-in h (s .before) (Call.report row (s .at)) 0 (s .behind) (rw made ranges) (s .reported))

@@ -12,7 +12,10 @@ use borrow.Author.Tests.{eqb-true, eqb-false, eq-eqb, ne-eqb}
 use Rattle.places.specs.Places.{isFree, isHeld, heldIn}
 use Rattle.register.specs.declared.Record.{Record}
 use Rattle.register.specs.Register.{Rows, keep, some, hasNumber}
+use Rattle.register.specs.Promise.{Unique}
 use Rattle.register.proofs.Rows.{clash}
+use Rattle.register.proofs.Unique.{unique-rest}
+use Rattle.register.proofs.Letter.Members.{alone}
 use Rattle.table.specs.Members.{nowhere, rowsAt, placeOf, digit, keepWord}
 
 -- ---- a test and its digit
@@ -276,3 +279,31 @@ unfolding rowsAt
 place-of-member row word [] member = absurd (List·Memᴰ·not-nil member)
 place-of-member row word (m ∷ ms) member =
     at-step row m word ms (isFree word) refl (place-of-member row (word / 2) ms) member
+
+-- where numbers are distinct, a number stands at one place held
+unique-behind : (word : ℕ) (m : Record) (ms : Rows) → Unique (rowsAt word (m ∷ ms)) → Unique (rowsAt (word / 2) ms)
+unique-behind word m ms u = go (isFree word) refl
+  where
+    go : (b : Bool) → isFree word ≡ b → Unique (rowsAt (word / 2) ms)
+    go true e = rw (rows-free word m ms e) at u
+    go false e = unique-rest m (rowsAt (word / 2) ms) (rw (rows-held word m ms e) at u)
+
+-- the number of the first place, if that is held, is at no place behind
+first-once :
+    (word : ℕ) (m : Record) (ms : Rows) → Unique (rowsAt word (m ∷ ms)) → (place : ℕ) → not (isFree word) ≡ true →
+    isHeld place (word / 2) ≡ true → place < length ms → getD ms place nowhere .source ≡ m .source → ⊥
+first-once word m ms u place first held h same =
+    let rows : _ = rows-held word m ms (not-yes (isFree word) first) in
+    alone m (getD ms place nowhere) (rowsAt (word / 2) ms) (rw rows at u) (member-at-place (word / 2) place ms held h) same
+
+pub place-once :
+    (word : ℕ) (ms : Rows) → Unique (rowsAt word ms) → (p q : ℕ) → isHeld p word ≡ true → isHeld q word ≡ true →
+    p < length ms → q < length ms → getD ms p nowhere .source ≡ getD ms q nowhere .source → p ≡ q
+unfolding isHeld
+place-once word [] u p q a b h k same = absurd (omega arith)
+place-once word (m ∷ ms) u zero zero a b h k same = refl
+place-once word (m ∷ ms) u zero (suc q) a b h k same = absurd (first-once word m ms u q a b (omega arith) (sym same))
+place-once word (m ∷ ms) u (suc p) zero a b h k same = absurd (first-once word m ms u p b a (omega arith) same)
+place-once word (m ∷ ms) u (suc p) (suc q) a b h k same =
+    ap suc
+    (place-once (word / 2) ms (unique-behind word m ms u) p q a b (omega arith) (omega arith) same)

@@ -1,14 +1,16 @@
--- Demand 3 as a statement: any list of calls from the table that opening returned, each call given the table that the one
--- before handed back.
+-- Demand 3 as a statement: any list of calls from the table that opening returned, each call given the table that the
+-- one before handed back.
 --
--- To be believed, besides what stands here: of `times` Times and of `origin` Origins; of `register` the records (src/lib.rt),
--- Register (the paper's plain register), Letter (the letter's sentences on members, twins and refusals), Choosing and
--- Promise (what is chosen, and what is promised of it).
--- No belief needs what the contracts tie to code: `opened`, `answered`, `chosenOf`, `seatAt` and `countOf` are what
--- `Table::open`, `report`, `farewell`, `sweep`, `choose`, `member_at` and `count` answer, whatever they say; nor what lies
--- below them (Members, Calls, Choose, Leader, Lateness). `opening` and `members` of `Agree` look into the table, and say
--- nothing that the fields behind them do not say of the public calls; the proofs above use them.
-use Prim.Native.Nat.{ℕ}
+-- To be believed, besides this file:
+--   `times` Times: ages, delay, expanded presentation, fresh;
+--   `register`: the records (src/lib.rt); Letter: members, twins and what each answer means; Choosing and Promise: what is
+--   chosen and what is promised of it; of Register `Opening`, `Call` and what Choosing and Promise use of it. The rest of
+--   Register is the papers' plain register, and is believed for the sentence that answers and members are exactly its own.
+-- No belief needs what the contracts tie to code: `opened`, `answered`, `chosenOf`, `seatAt` and `countOf` stand here as what
+-- `Table::open`, `report`, `farewell`, `sweep`, `choose`, `member_at` and `count` answer, whatever that is; nor what lies
+-- below them (Members, Calls, Choose, Leader, Lateness). `opening` and `members` of `Agree` look into the table for the proofs
+-- above; the fields behind them say the same of the public calls.
+use Prim.Native.Nat.{ℕ, _<_}
 use mathlib.Core.Path.{_≡_}
 use mathlib.Core.List.{List, [], _∷_, List·Memᴰ, List·Permᴰ}
 use lib.ListN.{length}
@@ -17,7 +19,7 @@ use Rattle.register.specs.declared.Reading.{Reading}
 use Rattle.register.specs.Register.{Opening, Rows, Call, answers, afterAll}
 use Rattle.register.specs.Choosing.{choice}
 use Rattle.register.specs.Promise.{Unique, AllInRange, Promised}
-use Rattle.register.specs.Letter.{History, history, madeIn, BadOpening, Letter}
+use Rattle.register.specs.Letter.{History, history, madeIn, BadOpening, openingLines, Means, Letter}
 use Rattle.table.specs.declared.Table.{Table}
 use Rattle.table.specs.Members.{openingOf, membersOf, countOf, seatAt}
 use Rattle.table.specs.Calls.{opened, answered}
@@ -33,12 +35,19 @@ unfoldable pub tableFrom : Table → List Call → Table
 tableFrom t [] = t
 tableFrom t (call ∷ calls) = tableFrom (answered t call .table) calls
 
--- x is shown after the calls of a history: the member at some place
-abbrev pub IsShown : Opening → History → Record → Type 0
-IsShown o h x =
-    (place : ℕ) × (seatAt (tableFrom (opened o .table) (madeIn h)) place ≡ record { held = 1; member = x })
+-- a table shows x: it is the member at one of the 64 places
+abbrev pub Shows : Table → Record → Type 0
+Shows t x = (place : ℕ) × (place < 64) × (seatAt t place ≡ record { held = 1; member = x })
 
--- this table and these rows are what an opening that is not refused with 12 and this list of calls leave
+-- x is shown after the calls of a history
+abbrev pub IsShown : Opening → History → Record → Type 0
+IsShown o h x = Shows (tableFrom (opened o .table) (madeIn h)) x
+
+-- what opening answers, whatever it is asked for: 12 exactly where 12 applies, else 0
+abbrev pub OpeningMeans : Opening → Type 0
+OpeningMeans o = Means (openingLines o) (opened o .number)
+
+-- this table and these rows are what an opening to which 12 does not apply and this list of calls leave
 pub record Reached (o : Opening) (calls : List Call) (t : Table) (rows : Rows) : Type 0 where
   pub taken : BadOpening o → ⊥
   pub ranges : AllInRange calls
@@ -52,10 +61,16 @@ pub record Agree (o : Opening) (t : Table) (rows : Rows) : Type 0 where
   pub members : List·Permᴰ (membersOf t) rows
   pub unique : Unique rows
   pub own : (row : Record) → List·Memᴰ row rows → (row .report .group ≡ o .group) × (row .report .media ≡ o .media)
-  -- as the public calls show them: the count is that of the rows, a seat that is held has a row, and each row a seat
+  -- as the public calls show them: the count is that of the rows, a place that is not shown free shows a row, each row is
+  -- shown, and no number at two places
   pub count : countOf t ≡ length rows
-  pub seats : (place : ℕ) → seatAt t place .held ≡ 1 → List·Memᴰ (seatAt t place .member) rows
-  pub seated : (row : Record) → List·Memᴰ row rows → (place : ℕ) × (seatAt t place ≡ record { held = 1; member = row })
+  pub seats :
+      (place : ℕ) → (seatAt t place .held ≡ 0 → ⊥) →
+      (seatAt t place .held ≡ 1) × List·Memᴰ (seatAt t place .member) rows
+  pub seated : (row : Record) → List·Memᴰ row rows → Shows t row
+  pub once :
+      (p q : ℕ) → seatAt t p .held ≡ 1 → seatAt t q .held ≡ 1 →
+      seatAt t p .member .source ≡ seatAt t q .member .source → p ≡ q
 
 -- what demand 3 says of a table, the rows and the calls that left them
 pub record Demand3 (o : Opening) (calls : List Call) (t : Table) (rows : Rows) : Type 0 where
@@ -63,9 +78,16 @@ pub record Demand3 (o : Opening) (calls : List Call) (t : Table) (rows : Rows) :
   pub opens : opened o .number ≡ 0
   pub numbers : answersFrom (opened o .table) calls ≡ answers o [] calls
   pub agree : Agree o t rows
-  -- the letter's sentences on members, twins and refusals, of the table's own answers and the members that it shows
+  -- every call of the list has its answer
+  pub whole : madeIn (history calls (answersFrom (opened o .table) calls)) ≡ calls
+  -- the letter's sentences on members, twins and refusals: of the table's own answers, and of the members shown by the
+  -- tables handed back, of which t is the last
   pub letter : Letter o (history calls (answersFrom (opened o .table) calls)) (IsShown o)
   -- choosing gives the register's choice at any reading, and leaves the table as it was
   pub chosen : (at : Reading) → chosenOf t at ≡ record { choice = choice o at rows; table = t }
   -- what the customer is promised of that choice
   pub promised : (at : Reading) → Promised o at rows (chosenOf t at .choice)
+
+-- demand 3: whatever the opening, the list of calls, and the table and rows that they leave
+abbrev pub EveryList : Type 0
+EveryList = (o : Opening) (calls : List Call) (t : Table) (rows : Rows) → Reached o calls t rows → Demand3 o calls t rows

@@ -2,14 +2,14 @@
 -- if its line applies.
 use Prim.Native.Nat.{ℕ, _<_}
 use mathlib.Core.Bool.{Bool, true, false, not, cond, _&&_, _||_, and-eq-true-iff}
-use mathlib.Core.List.{List, [], _∷_, List·Memᴰ, List·Memᴰ·head, List·Memᴰ·tail, List·Memᴰ·not-nil}
+use mathlib.Core.List.{List, [], _∷_, _++_, List·Memᴰ, List·Memᴰ·head, List·Memᴰ·tail, List·Memᴰ·not-nil}
 use mathlib.Core.Logic.{_⊎_, inl, inr, _↔_}
 use mathlib.Core.Path.{_≡_, refl, sym, ap, _∙_}
 use lib.Dec.{ltb, eqb}
 use native.Mathlib.Omega.{arith}
 use borrow.Author.Tests.{eqb-true, eq-eqb, ltb-true, lt-ltb}
 use Rattle.register.specs.Register.{some}
-use Rattle.register.specs.Letter.{Line, MeansFrom}
+use Rattle.register.specs.Letter.{Line, NoneOf, MeansBehind, Means}
 use Rattle.register.proofs.Rows.{clash}
 
 -- ---- a test that is true exactly where a proposition holds
@@ -102,16 +102,29 @@ and-true s t e = and-eq-true-iff s t .0 e
 differs : (a b : ℕ) → not (eqb a b) ≡ true → a ≡ b → ⊥
 differs a b = tells-not (eqb a b) (tells-equal a b) .0
 
--- where a line before applies, none of these numbers is given
+-- one line more
+none-more : (lines : List Line) (line : Line) → NoneOf (lines ++ (line ∷ [])) ↔ (NoneOf lines × (line .Applies → ⊥))
+unfolding NoneOf
+none-more [] line = (λ none. (tt, none .0), λ both. (both .1, tt))
+none-more (first ∷ lines) line =
+    let rest : _ = none-more lines line in
+    (
+      λ none. let both : _ = rest .0 (none .1) in ((none .0, both .0), both .1),
+      λ both. (both .0 .0, rest .1 (both .0 .1, both .1)),
+    )
+
+-- where an earlier line applies, none of these numbers is given
 ruled-out :
-    (None : Type 0) → (None → ⊥) → (number : ℕ) (lines : List Line) → isApart number lines ≡ true →
-    MeansFrom None lines number
-unfolding MeansFrom
-ruled-out None never number [] apart = (λ e. absurd (differs number 0 apart e), λ none. absurd (never none))
-ruled-out None never number (line ∷ lines) apart =
-    let both : _ = and-true (not (eqb number (line .number))) (isApart number lines) apart in (
+    (earlier : List Line) → (NoneOf earlier → ⊥) → (number : ℕ) (lines : List Line) → isApart number lines ≡ true →
+    MeansBehind earlier lines number
+unfolding MeansBehind
+ruled-out earlier never number [] apart = (λ e. absurd (differs number 0 apart e), λ none. absurd (never none))
+ruled-out earlier never number (line ∷ lines) apart =
+    let both : _ = and-true (not (eqb number (line .number))) (isApart number lines) apart in
+    let still : NoneOf (earlier ++ (line ∷ [])) → ⊥ = λ none. never (none-more earlier line .0 none .0) in
+    (
       (λ e. absurd (differs number (line .number) (both .0) e), λ applies. absurd (never (applies .0))),
-      ruled-out (None × (line .Applies → ⊥)) (λ none. never (none .0)) number lines (both .1),
+      ruled-out (earlier ++ (line ∷ [])) still number lines (both .1),
     )
 
 first-apart :
@@ -128,22 +141,30 @@ first-apart number (line ∷ lines) (t ∷ ts) tell apart e = go t (first-apart 
     go true rest e = differs number (line .number) (both .0) (sym e)
     go false rest e = rest e
 
-pub first-means :
-    (None : Type 0) → None → (lines : List Line) (ts : List Bool) → AllTell lines ts → areApart lines ≡ true →
-    MeansFrom None lines (firstNumber lines ts)
-unfolding MeansFrom
-first-means None none [] [] tell apart = (λ e. none, λ n. refl)
-first-means None none (line ∷ lines) (true ∷ ts) tell apart =
-    let both : _ = and-true (isApart (line .number) lines) (areApart lines) apart in (
-      (λ e. (none, tell .0 .0 refl), λ applies. refl),
-      ruled-out (None × (line .Applies → ⊥)) (λ n. n .1 (tell .0 .0 refl)) (line .number) lines (both .0),
-    )
-first-means None none (line ∷ lines) (false ∷ ts) tell apart =
+first-means-behind :
+    (earlier : List Line) → NoneOf earlier → (lines : List Line) (ts : List Bool) → AllTell lines ts →
+    areApart lines ≡ true → MeansBehind earlier lines (firstNumber lines ts)
+unfolding MeansBehind
+first-means-behind earlier none [] [] tell apart = (λ e. none, λ n. refl)
+first-means-behind earlier none (line ∷ lines) (true ∷ ts) tell apart =
     let both : _ = and-true (isApart (line .number) lines) (areApart lines) apart in
-    let passed : line .Applies → ⊥ = λ applies. clash (tell .0 .1 applies) in (
+    let applies : line .Applies = tell .0 .0 refl in
+    (
+      (λ e. (none, applies), λ n. refl),
+      ruled-out (earlier ++ (line ∷ [])) (λ n. none-more earlier line .0 n .1 applies) (line .number) lines (both .0),
+    )
+first-means-behind earlier none (line ∷ lines) (false ∷ ts) tell apart =
+    let both : _ = and-true (isApart (line .number) lines) (areApart lines) apart in
+    let passed : line .Applies → ⊥ = λ applies. clash (tell .0 .1 applies) in
+    (
       (
         λ e. absurd (first-apart (line .number) lines ts (tell .1) (both .0) e),
         λ applies. absurd (passed (applies .1)),
       ),
-      first-means (None × (line .Applies → ⊥)) (none, passed) lines ts (tell .1) (both .1),
+      first-means-behind (earlier ++ (line ∷ [])) (none-more earlier line .1 (none, passed)) lines ts (tell .1) (both .1),
     )
+
+pub first-means :
+    (lines : List Line) (ts : List Bool) → AllTell lines ts → areApart lines ≡ true → Means lines (firstNumber lines ts)
+unfolding NoneOf
+first-means lines ts tell apart = first-means-behind [] tt lines ts tell apart

@@ -12,7 +12,7 @@ use Rattle.register.specs.declared.Record.{Record}
 use Rattle.register.specs.declared.Reading.{Reading}
 use Rattle.register.specs.Register.{Opening, Rows, Call, keep, some, hasNumber, renewed}
 use Rattle.register.specs.Promise.{Unique}
-use Rattle.register.specs.Letter.{Event, got, History, Each, Ends, Stands}
+use Rattle.register.specs.Letter.{Event, got, History, OfEachCall, Ends, Stands}
 use Rattle.register.proofs.Rows.{clash}
 use Rattle.register.proofs.Unique.{unique-rest, unique-tail}
 use Rattle.register.proofs.Letter.Lines.{tells-some}
@@ -58,12 +58,12 @@ split-last (x ∷ h) e (b ∷ before) r behind p =
     let rest : h ++ (e ∷ []) ≡ before ++ (r ∷ behind) = cc in
     split-cons x b same (split-last h e before r behind rest)
 
-pub each-none : (Says : History → Call → ℕ → Type 0) → Each Says []
+pub each-none : (Says : History → Call → ℕ → Type 0) → OfEachCall Says []
 each-none Says before call number behind e = absurd (no-cons before (got call number) behind e)
 
 pub each-more :
-    (Says : History → Call → ℕ → Type 0) (h : History) (call : Call) (number : ℕ) → Each Says h → Says h call number →
-    Each Says (h ++ (got call number ∷ []))
+    (Says : History → Call → ℕ → Type 0) (h : History) (call : Call) (number : ℕ) → OfEachCall Says h → Says h call number →
+    OfEachCall Says (h ++ (got call number ∷ []))
 each-more Says h call number each says before call′ number′ behind p =
     go (split-last h (got call number) before (got call′ number′) behind p)
   where
@@ -86,7 +86,7 @@ pub stands-more :
 stands-more o h e x = (earlier, ⊎-elim anew still)
   where
     earlier : Stands o (h ++ (e ∷ [])) x → StandsAfter o h e x
-    earlier s = go (split-last h e (s .before) (got (Call.report x (s .at)) 0) (s .behind) (s .accepted))
+    earlier s = go (split-last h e (s .before) (got (Call.report x (s .at)) 0) (s .behind) (s .reported))
       where
         go : Split h e (s .before) (got (Call.report x (s .at)) 0) (s .behind) → StandsAfter o h e x
         go (here p q k) = inl (s .at, q)
@@ -97,7 +97,7 @@ stands-more o h e x = (earlier, ⊎-elim anew still)
                 before = s .before;
                 at = s .at;
                 behind = rest;
-                accepted = p;
+                reported = p;
                 last = λ f m. last f (member-left (e ∷ []) m);
               },
               last e (member-right rest (List·Memᴰ·head refl)),
@@ -109,7 +109,7 @@ stands-more o h e x = (earlier, ⊎-elim anew still)
           before = h;
           at = by .0;
           behind = [];
-          accepted = ap (λ (f : Event). h ++ (f ∷ [])) (by .1);
+          reported = ap (λ (f : Event). h ++ (f ∷ [])) (by .1);
           last = λ f m. absurd (List·Memᴰ·not-nil m);
         }
 
@@ -120,7 +120,7 @@ stands-more o h e x = (earlier, ⊎-elim anew still)
           before = s .before;
           at = s .at;
           behind = s .behind ++ (e ∷ []);
-          accepted = ap (λ (g : History). g ++ (e ∷ [])) (s .accepted) ∙ append-assoc (s .before) _ (e ∷ []);
+          reported = ap (λ (g : History). g ++ (e ∷ [])) (s .reported) ∙ append-assoc (s .before) _ (e ∷ []);
           last = λ f m. ⊎-elim (s .last f) (own f) (List·Memᴰ·append-cases (s .behind) m);
         }
       where

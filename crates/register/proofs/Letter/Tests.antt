@@ -15,7 +15,7 @@ use Rattle.register.specs.declared.Record.{Record}
 use Rattle.register.specs.declared.Reading.{Reading}
 use Rattle.register.specs.Register.{Opening, Rows, Call, isRefusedOpening, keep, some, presents, hasNumber, isHeldElsewhere, isOtherStream, reportChecks, hasNoRoom, farewellChecks, answer, freshAt}
 use Rattle.register.specs.Promise.{Unique}
-use Rattle.register.specs.Letter.{History, OtherStream, Fresh, BadOpening, BadlyPresented, Stands, AreAll, HeldElsewhere, NotHeld, NoRoom, openingLines, linesOf, MeansFrom, Means}
+use Rattle.register.specs.Letter.{History, OtherStream, StillFresh, BadOpening, BadlyPresented, Stands, AreAll, HeldElsewhere, NotHeld, NoRoom, openingLines, linesOf, NoneOf, MeansBehind, Means}
 use Rattle.register.proofs.Rows.{member-kept, length-keep-<}
 use Rattle.register.proofs.Unique.{unique-rest}
 use Rattle.register.proofs.Letter.Lines.{Tells, tells-equal, tells-less, tells-none, tells-not, tells-and, tells-or, tells-some, stable, first-means}
@@ -34,7 +34,7 @@ pub tells-other-stream :
     (o : Opening) (x : Record) → Tells (isOtherStream o (x .report .group) (x .report .media)) (OtherStream o x)
 tells-other-stream o x = tells-not _ (tells-own-stream o x)
 
-pub tells-fresh : (o : Opening) (at : Reading) (x : Record) → Tells (freshAt o at x) (Fresh o at x)
+pub tells-fresh : (o : Opening) (at : Reading) (x : Record) → Tells (freshAt o at x) (StillFresh o at x)
 tells-fresh o at x = tells-and _ _ (tells-not _ (tells-less _ _)) (tells-not _ (tells-less _ _))
 
 tells-origin : (a b : Origin) → Tells (sameOrigin a b) (a ≡ b)
@@ -60,9 +60,9 @@ tells-bad-opening o =
 
 -- what opening answers means what the table of refusals says
 pub opening-means : (o : Opening) → Means (openingLines o) (cond (isRefusedOpening o) 12 0)
-unfolding MeansFrom
+unfolding NoneOf MeansBehind
 opening-means o =
-    first-means Unit tt (openingLines o) (isRefusedOpening o ∷ []) (tells-bad-opening o, tt) refl
+    first-means (openingLines o) (isRefusedOpening o ∷ []) (tells-bad-opening o, tt) refl
 
 -- ---- how many stand
 
@@ -85,8 +85,8 @@ same-length : (o : Opening) (h : History) (xs ys : Rows) → AreAll o h xs → A
 same-length o h xs ys a b =
     omega (
       arith,
-      length-within xs ys (a .unique) (λ x m. b .each x .1 (a .each x .0 m)),
-      length-within ys xs (b .unique) (λ x m. a .each x .1 (b .each x .0 m)),
+      length-within xs ys (a .unique) (λ x m. b .those x .1 (a .those x .0 m)),
+      length-within ys xs (b .unique) (λ x m. a .those x .1 (b .those x .0 m)),
     )
 
 -- ---- from rows that are all that stand
@@ -95,10 +95,10 @@ module _ (o : Opening) (h : History) (rows : Rows) (all : AreAll o h rows) where
   tells-held : (source : ℕ) → Tells (some (hasNumber source) rows) ((x : Record) × Stands o h x × (x .source ≡ source))
   tells-held source = (
     λ e. let found : _ = tells-some (hasNumber source) rows .0 e in
-        (found .0, all .each (found .0) .0 (found .1), eqb-true (found .0 .source) source (found .2)),
+        (found .0, all .those (found .0) .0 (found .1), eqb-true (found .0 .source) source (found .2)),
     λ found.
         tells-some (hasNumber source) rows .1
-        (found .0, all .each (found .0) .1 (found .1), eq-eqb (found .0 .source) source (found .2)),
+        (found .0, all .those (found .0) .1 (found .1), eq-eqb (found .0 .source) source (found .2)),
   )
 
   tells-not-held : (source : ℕ) → Tells (not (some (hasNumber source) rows)) (NotHeld o h source)
@@ -112,9 +112,9 @@ module _ (o : Opening) (h : History) (rows : Rows) (all : AreAll o h rows) where
   tells-elsewhere source origin = (
     λ e. let found : _ = tells-some there rows .0 e in
         let both : _ = own (found .0) .0 (found .2) in
-        (found .0, all .each (found .0) .0 (found .1), both .0, both .1),
+        (found .0, all .those (found .0) .0 (found .1), both .0, both .1),
     λ found.
-        tells-some there rows .1 (found .0, all .each (found .0) .1 (found .1), own (found .0) .1 (found .2, found .3)),
+        tells-some there rows .1 (found .0, all .those (found .0) .1 (found .1), own (found .0) .1 (found .2, found .3)),
   )
     where
       there : Record → Bool
@@ -135,9 +135,9 @@ module _ (o : Opening) (h : History) (rows : Rows) (all : AreAll o h rows) where
 
   -- every answer means what the table of refusals says
   pub answer-means : (call : Call) → Means (linesOf o h call) (answer o rows call)
-  unfolding answer reportChecks farewellChecks linesOf MeansFrom
+  unfolding answer reportChecks farewellChecks linesOf NoneOf MeansBehind
   answer-means (Call.report x at) =
-      first-means Unit tt (linesOf o h (Call.report x at))
+      first-means (linesOf o h (Call.report x at))
       (isOtherStream o (x .report .group) (x .report .media)
       ∷ isHeldElsewhere rows (x .source) (x .origin)
       ∷ isFar (at .ntp) (x .report .received)
@@ -162,7 +162,7 @@ module _ (o : Opening) (h : History) (rows : Rows) (all : AreAll o h rows) where
       )
       refl
   answer-means (Call.farewell source origin) =
-      first-means Unit tt (linesOf o h (Call.farewell source origin))
+      first-means (linesOf o h (Call.farewell source origin))
       (not (some (hasNumber source) rows) ∷ isHeldElsewhere rows source origin ∷ [])
       (tells-not-held source, (tells-elsewhere source origin, tt))
       refl

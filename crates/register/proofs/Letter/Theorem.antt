@@ -3,14 +3,14 @@ use Prim.Native.Nat.{ℕ}
 use mathlib.Core.Bool.{Bool, true, false, not}
 use mathlib.Core.List.{List, [], _∷_, _++_, append-assoc, append-nil, List·Memᴰ, List·Memᴰ·not-nil}
 use mathlib.Core.Logic.{inl, inr, ⊎-elim, _↔_}
-use mathlib.Core.Path.{_≡_, refl, sym, ap, subst, _∙_}
+use mathlib.Core.Path.{_≡_, refl, sym, ap, ap₂, subst, _∙_}
 use lib.Dec.{eqb}
 use native.Mathlib.Omega.{arith}
 use borrow.Author.Tests.{eqb-true, eqb-false, eq-eqb, ne-eqb}
 use Rattle.register.specs.declared.Record.{Record}
 use Rattle.register.specs.declared.Reading.{Reading}
 use Rattle.register.specs.Register.{Opening, Rows, Call, keep, hasNumber, isOtherStream, answer, freshAt, accepted, after, answers, afterAll}
-use Rattle.register.specs.Letter.{got, History, history, madeIn, Each, OtherStream, Ends, Stands, AreAll, HeldElsewhere, linesOf, MeansFrom, Means, IsTwins, TwinGets, Letter}
+use Rattle.register.specs.Letter.{got, History, history, madeIn, OfEachCall, OtherStream, Ends, Stands, AreAll, HeldElsewhere, linesOf, NoneOf, MeansBehind, Means, FromTwin, TwinGets, TwinAltersNothing, Letter}
 use Rattle.register.proofs.History.{rows-append}
 use Rattle.register.proofs.Rows.{clash, kept-member, member-kept}
 use Rattle.register.proofs.Permuted.{unique-after}
@@ -33,19 +33,19 @@ module _ (o : Opening) (h : History) (rows : Rows) (all : AreAll o h rows) where
       anew e = inl (at, cc)
 
       still : List·Memᴰ y rows × (y .source ≡ x .source → ⊥) → StandsAfter o h (got (Call.report x at) 0) y
-      still m = inr (all .each y .0 (m .0), λ ends. m .1 (sym (ends .0)))
+      still m = inr (all .those y .0 (m .0), λ ends. m .1 (sym (ends .0)))
 
       same : (at′ : Reading) × (got (Call.report x at) 0 ≡ got (Call.report y at′) 0) → OwnOrOther x y rows
       same by = let told : got (Call.report x at) 0 ≡ got (Call.report y (by .0)) 0 = by .1 in inl (cc)
 
       other : Stands o h y × (Ends o y (got (Call.report x at) 0) → ⊥) → OwnOrOther x y rows
-      other s = inr (all .each y .1 (s .0), λ e. s .1 (sym e, refl))
+      other s = inr (all .those y .1 (s .0), λ e. s .1 (sym e, refl))
   accepted-stand (Call.farewell source origin) y = (
     λ m. let kept : _ = kept-member other y rows m in
-        inr (all .each y .0 (kept .1), λ ends. tells-other .0 (kept .0) (sym (ends .0))),
+        inr (all .those y .0 (kept .1), λ ends. tells-other .0 (kept .0) (sym (ends .0))),
     ⊎-elim
         (λ by. let told : got (Call.farewell source origin) 0 ≡ got (Call.report y (by .0)) 0 = by .1 in never told)
-        (λ s. member-kept other y rows (tells-other .1 (λ e. s .1 (sym e, refl))) (all .each y .1 (s .0))),
+        (λ s. member-kept other y rows (tells-other .1 (λ e. s .1 (sym e, refl))) (all .those y .1 (s .0))),
   )
     where
       other : Record → Bool
@@ -58,11 +58,11 @@ module _ (o : Opening) (h : History) (rows : Rows) (all : AreAll o h rows) where
       never told = let z : _≡_ {A = ℕ} 0 1 = cc in absurd (omega arith)
   accepted-stand (Call.sweep at) y = (
     λ m. let kept : _ = kept-member (freshAt o at) y rows m in
-        inr (all .each y .0 (kept .1), λ ends. ends (tells-fresh o at y .0 (kept .0))),
+        inr (all .those y .0 (kept .1), λ ends. ends (tells-fresh o at y .0 (kept .0))),
     ⊎-elim
         (λ by. let told : got (Call.sweep at) 0 ≡ got (Call.report y (by .0)) 0 = by .1 in never told)
         (λ s.
-        member-kept (freshAt o at) y rows (stable _ (tells-fresh o at y) (s .1)) (all .each y .1 (s .0))),
+        member-kept (freshAt o at) y rows (stable _ (tells-fresh o at y) (s .1)) (all .those y .1 (s .0))),
   )
     where
       never : {at′ : Reading} {A : Type 0} → got (Call.sweep at) 0 ≡ got (Call.report y at′) 0 → A
@@ -113,8 +113,8 @@ after-stand o h rows all call y = go (eqb (answer o rows call) 0) refl
     go false e =
         let some-number : answer o rows call ≡ 0 → ⊥ = eqb-false (answer o rows call) 0 e in
         rw (after-refused o rows call some-number) (
-          λ m. inr (all .each y .0 m, ends-accepted o rows call y some-number),
-          ⊎-elim (λ by. anew (by .0) some-number (by .1)) (λ s. all .each y .1 (s .0)),
+          λ m. inr (all .those y .0 m, ends-accepted o rows call y some-number),
+          ⊎-elim (λ by. anew (by .0) some-number (by .1)) (λ s. all .those y .1 (s .0)),
         )
       where
         anew :
@@ -135,7 +135,7 @@ told-more o h rows told call =
     record {
       all = record {
         unique = unique-after o call rows (told .all .unique);
-        each = λ y.
+        those = λ y.
             let here : _ = after-stand o h rows (told .all) call y in
             let more : _ = stands-more o h (got call (answer o rows call)) y in
             (λ m. more .1 (here .0 m), λ s. here .1 (more .0 s));
@@ -151,8 +151,8 @@ told-more o h rows told call =
 -- a twin's call is refused, by its lines
 twin-refused :
     (o : Opening) (h : History) (call : Call) (number : ℕ) → Means (linesOf o h call) number →
-    (x : Record) → Stands o h x → IsTwins x call → TwinGets o call number × (number ≡ 0 → ⊥)
-unfolding linesOf MeansFrom
+    (x : Record) → Stands o h x → FromTwin x call → TwinGets o call number × (number ≡ 0 → ⊥)
+unfolding linesOf NoneOf MeansBehind
 twin-refused o h (Call.report y at) number means x s twin =
     (gets, go (isOtherStream o (y .report .group) (y .report .media)) (tells-other-stream o y))
   where
@@ -160,7 +160,7 @@ twin-refused o h (Call.report y at) number means x s twin =
     elsewhere = (x, s, sym (twin .0), λ e. twin .1 (sym e))
 
     gets : TwinGets o (Call.report y at) number
-    gets = (λ other. means .0 .1 (tt, other), λ own. means .1 .0 .1 ((tt, own), elsewhere))
+    gets = (λ other. means .0 .1 (tt, other), λ own. means .1 .0 .1 ((own, tt), elsewhere))
 
     go : (t : Bool) → Tells t (OtherStream o y) → number ≡ 0 → ⊥
     go true tell e = omega (arith, gets .0 (tell .0 refl))
@@ -168,16 +168,14 @@ twin-refused o h (Call.report y at) number means x s twin =
 twin-refused o h (Call.farewell source origin) number means x s twin = (gets, λ e. omega (arith, gets))
   where
     gets : number ≡ 14
-    gets = means .1 .0 .1 ((tt, λ free. free x s (sym (twin .0))), (x, s, sym (twin .0), λ e. twin .1 (sym e)))
+    gets = means .1 .0 .1 ((λ free. free x s (sym (twin .0)), tt), (x, s, sym (twin .0), λ e. twin .1 (sym e)))
 twin-refused o h (Call.sweep at) number means x s twin = absurd twin
 
 -- ---- the sentences
 
 -- what the letter says of one call, its answer and the members that it leaves
 abbrev Says : Opening → History → Call → ℕ → Type 0
-Says o h call number =
-    ((x : Record) → IsRow o h x → IsTwins x call → TwinGets o call number × IsRow o (h ++ (got call number ∷ [])) x)
-    × Means (linesOf o h call) number
+Says o h call number = TwinAltersNothing o (IsRow o) h call number × Means (linesOf o h call) number
 
 says-next :
     (o : Opening) (h : History) (rows : Rows) → Told o h rows → (call : Call) → Says o h call (answer o rows call)
@@ -186,20 +184,18 @@ says-next o h rows told call = (twins, means)
     means : Means (linesOf o h call) (answer o rows call)
     means = answer-means o h rows (told .all) call
 
-    twins :
-        (x : Record) → IsRow o h x → IsTwins x call →
-        TwinGets o call (answer o rows call) × IsRow o (h ++ (got call (answer o rows call) ∷ [])) x
+    twins : TwinAltersNothing o (IsRow o) h call (answer o rows call)
     twins x row twin =
         let member : List·Memᴰ x rows = rw (told .rows-are) at row in
-        let gets : _ = twin-refused o h call (answer o rows call) means x (told .all .each x .0 member) twin in (
+        let gets : _ = twin-refused o h call (answer o rows call) means x (told .all .those x .0 member) twin in (
           gets .0,
           rw (told-more o h rows told call .rows-are, after-refused o rows call (gets .1)) member,
         )
 
 follows :
-    (o : Opening) (h : History) (rows : Rows) (calls : List Call) → Told o h rows → Each (Says o) h →
+    (o : Opening) (h : History) (rows : Rows) (calls : List Call) → Told o h rows → OfEachCall (Says o) h →
     Told o (h ++ history calls (answers o rows calls)) (afterAll o rows calls)
-    × Each (Says o) (h ++ history calls (answers o rows calls))
+    × OfEachCall (Says o) (h ++ history calls (answers o rows calls))
 unfolding history answers afterAll
 follows o h rows [] told each = rw (append-nil h) (told, each)
 follows o h rows (call ∷ calls) told each =
@@ -214,7 +210,7 @@ told-none o =
     record {
       all = record {
         unique = λ source. omega arith;
-        each = λ x. (λ m. absurd (List·Memᴰ·not-nil m), λ s. absurd (no-cons (s .before) _ (s .behind) (s .accepted)));
+        those = λ x. (λ m. absurd (List·Memᴰ·not-nil m), λ s. absurd (no-cons (s .before) _ (s .behind) (s .reported)));
       };
       rows-are = refl;
     }
@@ -225,15 +221,39 @@ unfolding madeIn history answers
 made-of o rows [] = refl
 made-of o rows (call ∷ calls) = ap (λ (more : List Call). call ∷ more) (made-of o (after o rows call) calls)
 
+-- a beginning of the register's history is the register's history of its calls
+beginning :
+    (o : Opening) (rows : Rows) (calls : List Call) (before behind : History) →
+    history calls (answers o rows calls) ≡ before ++ behind →
+    before ≡ history (madeIn before) (answers o rows (madeIn before))
+unfolding madeIn history answers
+beginning o rows calls [] behind e = refl
+beginning o rows [] (got first n ∷ before) behind e = absurd (no-cons [] (got first n) (before ++ behind) e)
+beginning o rows (call ∷ calls) (got first n ∷ before) behind e =
+    let same : call ≡ first = cc in
+    let number : answer o rows call ≡ n = cc in
+    let rest : history calls (answers o (after o rows call) calls) ≡ before ++ behind = cc in
+    let more : before ≡ history (madeIn before) (answers o (after o rows call) (madeIn before)) =
+    beginning o (after o rows call) calls before behind rest in
+    rw (← same) (ap₂ _∷_ (ap (got call) (sym number)) more)
+
 -- Whatever the calls, the letter's sentences hold of the register's answers and rows.
 pub letter : (o : Opening) (calls : List Call) → Letter o (history calls (answers o [] calls)) (IsRow o)
 letter o calls =
-    let run : _ = follows o [] [] calls (told-none o) (each-none (Says o)) in
     record {
-      stands = λ x. rw (← run .0 .rows-are) at (run .0 .all .each x);
-      twins = λ before call number behind e. run .1 before call number behind e .0;
-      answers = λ before call number behind e. run .1 before call number behind e .1;
+      members = λ before behind e.
+          let begins : _ = beginning o [] calls before behind e in
+          let there : Told o before (afterAll o [] (madeIn before)) = rw (← begins) at (run (madeIn before) .0) in
+          there .all .those;
+      twins = λ before call number behind e. run calls .1 before call number behind e .0;
+      refusals = λ before call number behind e. run calls .1 before call number behind e .1;
     }
+  where
+    run :
+        (those : List Call) →
+        Told o (history those (answers o [] those)) (afterAll o [] those)
+        × OfEachCall (Says o) (history those (answers o [] those))
+    run those = follows o [] [] those (told-none o) (each-none (Says o))
 
 -- ... and of whoever shows the same members.
 pub letter-shown :
@@ -241,9 +261,11 @@ pub letter-shown :
     ((g : History) (x : Record) → Shown g x ↔ Other g x) → Letter o h Shown → Letter o h Other
 letter-shown o h Shown Other same l =
     record {
-      stands = λ x. (λ m. l .stands x .0 (same h x .1 m), λ s. same h x .0 (l .stands x .1 s));
+      members = λ before behind e x.
+          let member : _ = l .members before behind e x in
+          (λ m. member .0 (same before x .1 m), λ s. same before x .0 (member .1 s));
       twins = λ before call number behind e x shown twin.
           let gets : _ = l .twins before call number behind e x (same before x .1 shown) twin in
           (gets .0, same (before ++ (got call number ∷ [])) x .0 (gets .1));
-      answers = l .answers;
+      refusals = l .refusals;
     }

@@ -6,7 +6,7 @@ use mathlib.Core.List.{List, [], _∷_, _++_, List·Memᴰ, Permᴰ·refl, Perm�
 use mathlib.Core.Logic.{_↔_}
 use mathlib.Core.Path.{_≡_, refl, sym, ap, _∙_}
 use lib.Dec.{ltb}
-use lib.ListN.{length, length-replicate}
+use lib.ListN.{length, getD, length-replicate}
 use native.Mathlib.Omega.{arith}
 use borrow.Author.Tests.{ltb-true, lt-ltb}
 use Rattle.places.specs.Places.{isHeld}
@@ -16,7 +16,7 @@ use Rattle.register.specs.declared.Choice.{Choice}
 use Rattle.register.specs.Register.{Opening, Rows, Call, isRefusedOpening, keep, answer, after, answers, afterAll}
 use Rattle.register.specs.Choosing.{choice}
 use Rattle.register.specs.Promise.{AllInRange}
-use Rattle.register.specs.Letter.{History, history, madeIn, BadOpening, openingLines, Means}
+use Rattle.register.specs.Letter.{History, history, madeIn, BadOpening}
 use Rattle.register.proofs.Rows.{member-permuted}
 use Rattle.register.proofs.History.{rows-append, ranges-append}
 use Rattle.register.proofs.Unique.{unique-permuted}
@@ -24,15 +24,15 @@ use Rattle.register.proofs.Permuted.{choice-permuted}
 use Rattle.register.proofs.Stands.{Sound, sound-rows}
 use Rattle.register.proofs.Letter.Lines.{untold}
 use Rattle.register.proofs.Letter.Tests.{tells-bad-opening, opening-means}
-use Rattle.register.proofs.Letter.Theorem.{IsRow, letter, letter-shown}
+use Rattle.register.proofs.Letter.Theorem.{IsRow, made-of, letter, letter-shown}
 use Rattle.register.proofs.Promised.{choice-promised}
 use Rattle.table.specs.declared.Table.{Table}
 use Rattle.table.specs.declared.Seat.{Seat}
-use Rattle.table.specs.Members.{membersOf, countOf, seatAt, vacant, emptyTable}
+use Rattle.table.specs.Members.{nowhere, membersOf, countOf, seatAt, vacant, emptyTable}
 use Rattle.table.specs.Calls.{opened, answered}
 use Rattle.table.specs.Choose.{choiceOf}
-use Rattle.table.specs.History.{answersFrom, tableFrom, IsShown, Agree, Reached, Demand3}
-use Rattle.table.proofs.Seats.{rows-none, member-at-place, place-of-member}
+use Rattle.table.specs.History.{answersFrom, tableFrom, Shows, IsShown, OpeningMeans, Agree, Reached, Demand3, EveryList}
+use Rattle.table.proofs.Seats.{rows-none, member-at-place, place-of-member, place-once}
 use Rattle.table.proofs.Agreement.Calls.{Holds, rows-count, number-same, answered-holds}
 use Rattle.table.proofs.Agreement.Following.{choice-of-members}
 
@@ -53,11 +53,11 @@ unfolding opened
 opened-taken o taken = rw (untold (isRefusedOpening o) (tells-bad-opening o) taken) (refl, empty-holds o)
 
 -- Of every opening: the answer means what the table of refusals says of 12.
-pub opening-answered : (o : Opening) → Means (openingLines o) (opened o .number)
+pub opening-answered : (o : Opening) → OpeningMeans o
 unfolding opened
 opening-answered o = go (isRefusedOpening o) refl
   where
-    go : (t : Bool) → isRefusedOpening o ≡ t → Means (openingLines o) (opened o .number)
+    go : (t : Bool) → isRefusedOpening o ≡ t → OpeningMeans o
     go true e = rw e (rw e at (opening-means o))
     go false e = rw e (rw e at (opening-means o))
 
@@ -96,28 +96,52 @@ chosen-same o t rows h at =
 -- ---- the members, as the public calls show them
 
 seat-row :
-    (o : Opening) (t : Table) (rows : Rows) → Holds o t rows → (place : ℕ) → seatAt t place .held ≡ 1 →
-    List·Memᴰ (seatAt t place .member) rows
+    (o : Opening) (t : Table) (rows : Rows) → Holds o t rows → (place : ℕ) → (seatAt t place .held ≡ 0 → ⊥) →
+    (seatAt t place .held ≡ 1) × List·Memᴰ (seatAt t place .member) rows
 unfolding seatAt
 seat-row o t rows h place = go (ltb place 64 && isHeld place (t .held)) refl
   where
     go :
-        (b : Bool) → (ltb place 64 && isHeld place (t .held)) ≡ b → seatAt t place .held ≡ 1 →
-        List·Memᴰ (seatAt t place .member) rows
-    go true e one =
+        (b : Bool) → (ltb place 64 && isHeld place (t .held)) ≡ b → (seatAt t place .held ≡ 0 → ⊥) →
+        (seatAt t place .held ≡ 1) × List·Memᴰ (seatAt t place .member) rows
+    go true e used =
         let both : _ = and-eq-true-iff (ltb place 64) (isHeld place (t .held)) .0 e in
         let within : place < length (t .members) = omega (arith, ltb-true place 64 (both .0), h .long) in
-        rw e (member-permuted (h .same) (member-at-place (t .held) place (t .members) (both .1) within))
-    go false e one = let none : _≡_ {A = ℕ} 0 1 = rw e at one in absurd (omega (arith, none))
+        rw e (refl, member-permuted (h .same) (member-at-place (t .held) place (t .members) (both .1) within))
+    go false e used = let free : seatAt t place .held ≡ 0 = rw e refl in absurd (used free)
 
 row-seat :
-    (o : Opening) (t : Table) (rows : Rows) → Holds o t rows → (row : Record) → List·Memᴰ row rows →
-    (place : ℕ) × (seatAt t place ≡ record { held = 1; member = row })
+    (o : Opening) (t : Table) (rows : Rows) → Holds o t rows → (row : Record) → List·Memᴰ row rows → Shows t row
 unfolding seatAt
 row-seat o t rows h row member =
     let at : _ = place-of-member row (t .held) (t .members) (member-permuted (Permᴰ·symm (h .same)) member) in
-    let below : ltb (at .place) 64 ≡ true = lt-ltb (at .place) 64 (omega (arith, at .within, h .long)) in
-    (at .place, rw (below, at .held, at .row-is) refl)
+    let below : at .place < 64 = omega (arith, at .within, h .long) in
+    (at .place, below, rw (lt-ltb (at .place) 64 below, at .held, at .row-is) refl)
+
+-- what a place shows that is held
+shown-there :
+    (t : Table) (place : ℕ) → seatAt t place .held ≡ 1 →
+    (place < 64) × (isHeld place (t .held) ≡ true) × (seatAt t place .member ≡ getD (t .members) place nowhere)
+unfolding seatAt
+shown-there t place = go (ltb place 64 && isHeld place (t .held)) refl
+  where
+    go :
+        (b : Bool) → (ltb place 64 && isHeld place (t .held)) ≡ b → seatAt t place .held ≡ 1 →
+        (place < 64) × (isHeld place (t .held) ≡ true) × (seatAt t place .member ≡ getD (t .members) place nowhere)
+    go true e one =
+        let both : _ = and-eq-true-iff (ltb place 64) (isHeld place (t .held)) .0 e in
+        (ltb-true place 64 (both .0), both .1, rw e refl)
+    go false e one = let none : _≡_ {A = ℕ} 0 1 = rw e at one in absurd (omega (arith, none))
+
+seats-once :
+    (o : Opening) (t : Table) (rows : Rows) → Holds o t rows → (p q : ℕ) → seatAt t p .held ≡ 1 → seatAt t q .held ≡ 1 →
+    seatAt t p .member .source ≡ seatAt t q .member .source → p ≡ q
+seats-once o t rows h p q first second same =
+    let a : _ = shown-there t p first in
+    let b : _ = shown-there t q second in
+    place-once (t .held) (t .members) (unique-permuted (Permᴰ·symm (h .same)) (h .unique)) p q
+    (a .1) (b .1) (omega (arith, a .0, h .long)) (omega (arith, b .0, h .long))
+    (sym (ap (λ (x : Record). x .source) (a .2)) ∙ same ∙ ap (λ (x : Record). x .source) (b .2))
 
 agreed : (o : Opening) (t : Table) (rows : Rows) → Holds o t rows → Sound o rows → Agree o t rows
 unfolding countOf
@@ -130,6 +154,7 @@ agreed o t rows h sound =
       count = rows-count o t rows h;
       seats = seat-row o t rows h;
       seated = row-seat o t rows h;
+      once = seats-once o t rows h;
     }
 
 -- ---- the letter's sentences
@@ -149,8 +174,9 @@ shown-row o taken h x = (row-seat o t rows holds x, shown)
 
     shown : IsShown o h x → IsRow o h x
     shown at =
-        let held : _ = ap (λ (s : Seat). s .held) (at .1) in
-        rw (ap (λ (s : Seat). s .member) (at .1)) at (seat-row o t rows holds (at .0) held)
+        let held : _ = ap (λ (s : Seat). s .held) (at .2) in
+        rw (ap (λ (s : Seat). s .member) (at .2)) at
+        (seat-row o t rows holds (at .0) (λ free. omega (arith, held, free)) .1)
 
 -- ---- demand 3
 
@@ -159,8 +185,7 @@ reached-holds :
 reached-holds o calls t rows here =
     rw (here .table-is, here .rows-are) (from-opened o (here .taken) calls .holds)
 
-pub demand3 :
-    (o : Opening) (calls : List Call) (t : Table) (rows : Rows) → Reached o calls t rows → Demand3 o calls t rows
+pub demand3 : EveryList
 demand3 o calls t rows reached =
     let same : answersFrom (opened o .table) calls ≡ answers o [] calls =
     from-opened o (reached .taken) calls .answers-same in
@@ -170,6 +195,7 @@ demand3 o calls t rows reached =
       opens = opened-taken o (reached .taken) .0;
       numbers = same;
       agree = agreed o t rows holds sound;
+      whole = rw same (made-of o [] calls);
       letter =
           rw same
           (letter-shown o (history calls (answers o [] calls)) (IsRow o) (IsShown o) (shown-row o (reached .taken))
