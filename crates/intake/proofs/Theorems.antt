@@ -1,11 +1,12 @@
 -- What a caller may rely on, beyond the call's own contract: how long a list is long enough, and that demand 3 reaches
 -- the table that a datagram or an item of it leaves.
 use Prim.Native.Nat.{ℕ, _+_, _≤_}
-use mathlib.Core.Path.{_≡_, refl}
+use mathlib.Core.Path.{_≡_, refl, ap, _∙_}
 use mathlib.Core.Bool.{true, false}
-use mathlib.Core.List.{List, [], _∷_}
+use mathlib.Core.List.{List, [], _∷_, _++_}
 use lib.Dec.{ltb}
-use lib.ListN.{length}
+use lib.ListN.{length, drop}
+use lib.Seq.{drop-at}
 use native.Mathlib.Omega.{arith}
 use borrow.Author.Tests.{lt-ltb, le-ltb}
 use Rattle.idms.specs.declared.Item.{Item}
@@ -15,7 +16,7 @@ use Rattle.register.specs.declared.Reading.{Reading}
 use Rattle.rtcp.specs.declared.walk.Count.{Count}
 use Rattle.register.specs.Register.{Opening, Rows, Call, answer, answers, afterAll}
 use Rattle.register.specs.Promise.{AllInRange}
-use Rattle.register.proofs.History.{answers-append, ranges-append}
+use Rattle.register.proofs.History.{length-answers, answers-append, ranges-append}
 use Rattle.table.specs.declared.Table.{Table}
 use Rattle.table.specs.Calls.{answered}
 use Rattle.table.specs.Intake.{called, taken}
@@ -32,7 +33,7 @@ use Rattle.rtcp.proofs.Laws.ItemPlaces.{All, none, also, ReadFrom, report, sett
 use Rattle.rtcp.proofs.Theorems.{count-bound}
 use Rattle.intake.specs.Feeding.{callsOf, callsIn, fed, answersAfter}
 use Rattle.intake.specs.Steps.{weight, callCount}
-use Rattle.intake.specs.Reaching.{datagramCalls, DatagramReached, CallMade, ItemReached}
+use Rattle.intake.specs.Reaching.{datagramCalls, EveryDatagram, OneMade, EveryItem}
 use Rattle.intake.proofs.Laws.{length-calls}
 
 weight-bound : (item : Item) → weight item ≤ 1
@@ -82,53 +83,69 @@ pub datagram-in-range :
     → AllInRange (datagramCalls d origin at)
 datagram-in-range d origin at h check = calls-in-range d origin at h (items-read d check)
 
-module _ (o : Opening) (calls : List Call) (t : Table) (rows : Rows) (here : Reached o calls t rows) where
-  -- Of every datagram of bytes all calls are made, and answered as the register answers them, or none is.
-  pub datagram-reached :
-      (d : List ℕ) → AreBytes d → (origin : Origin) (at : Reading) (lent : List ℕ)
-      → DatagramReached o calls t rows d origin at lent
-  unfolding fed answersAfter
-  datagram-reached d h origin at lent =
-      record {
-        made = λ check room.
-            let more = datagramCalls d origin at in
-            let ranges : AllInRange more = datagram-in-range d origin at h check in
-            let enough : ltb (length lent) (length more) ≡ false = le-ltb (length lent) (length more) room in
-            record {
-              reached = rw (check, enough) (reached-further o calls t rows more here ranges);
-              numbers = rw (check, enough, reached-answers o calls t rows more here) refl;
-              later = rw (here .rows-are) (answers-append o [] calls more);
-              number = rw (check, enough) refl;
-              count = rw (check, enough) refl;
-            };
-        unread = λ number place check.
-            record { reached = rw check here; numbers = rw check refl; number = rw check refl; count = rw check refl };
-        short = λ check less.
-            let many : ltb (length lent) (length (datagramCalls d origin at)) ≡ true = lt-ltb _ _ less in
-            record {
-              reached = rw (check, many) here;
-              numbers = rw (check, many) refl;
-              number = rw (check, many) refl;
-              count = rw (check, many) refl;
-            };
-      }
+-- the register's answers behind those to the calls before
+answers-behind :
+    (o : Opening) (calls more : List Call) →
+    drop (length calls) (answers o [] (calls ++ more)) ≡ answers o (afterAll o [] calls) more
+answers-behind o calls more =
+    ap (drop (length calls)) (answers-append o [] calls more)
+    ∙ drop-at (answers o [] calls) _ (length calls) (length-answers o [] calls)
 
-  call-made : (call : Call) → AllInRange (call ∷ []) → CallMade o calls t rows call (called t call)
+-- Of every datagram of bytes all calls are made, and answered as the register answers them, or none is.
+pub datagram-reached : EveryDatagram
+unfolding fed answersAfter
+datagram-reached o calls t rows here d h origin at lent =
+    record {
+      made = λ check room.
+          let more = datagramCalls d origin at in
+          let ranges : AllInRange more = datagram-in-range d origin at h check in
+          let enough : ltb (length lent) (length more) ≡ false = le-ltb (length lent) (length more) room in
+          let behind : drop (length calls) (answers o [] (calls ++ more)) ≡ answers o rows more =
+          rw (here .rows-are) (answers-behind o calls more) in
+          record {
+            reached = rw (check, enough) (reached-further o calls t rows more here ranges);
+            numbers = rw (check, enough, behind, reached-answers o calls t rows more here) refl;
+            number = rw (check, enough) refl;
+            place = rw (check, enough) refl;
+            count = rw (check, enough) refl;
+          };
+      unread = λ number place check.
+          record {
+            reached = rw check here;
+            numbers = rw check refl;
+            number = rw check refl;
+            place = rw check refl;
+            count = rw check refl;
+          };
+      short = λ check less.
+          let many : ltb (length lent) (length (datagramCalls d origin at)) ≡ true = lt-ltb _ _ less in
+          record {
+            reached = rw (check, many) here;
+            numbers = rw (check, many) refl;
+            number = rw (check, many) refl;
+            place = rw (check, many) refl;
+            count = rw (check, many) refl;
+          };
+    }
+
+module _ (o : Opening) (calls : List Call) (t : Table) (rows : Rows) (here : Reached o calls t rows) where
+  call-made : (call : Call) → AllInRange (call ∷ []) → OneMade o calls t rows call (called t call)
   unfolding tableFrom answersFrom afterAll answers
   call-made call ranges =
       let same : answered t call .number ∷ [] ≡ answer o rows call ∷ [] =
       reached-answers o calls t rows (call ∷ []) here in
       record { reached = reached-further o calls t rows (call ∷ []) here ranges; outcome = cc }
 
-  -- Every item of it, taken in by its index, is one call, answered as the register answers it, or changes nothing.
-  pub item-reached :
-      (d : List ℕ) → AreBytes d → (index : ℕ) (origin : Origin) (at : Reading)
-      → ItemReached o calls t rows d index origin at
-  unfolding taken
-  item-reached d h index origin at =
-      record {
-        report = λ place r e. rw e (call-made _ (item-in-range d origin at h (item-read d index _ e)));
-        farewell = λ place source e. rw e (call-made _ (item-in-range d origin at h (item-read d index _ e)));
-        settings = λ place s e. rw e refl;
-        unread = λ r e. rw e refl;
-      }
+-- Every item of it, taken in by its index, is one call, answered as the register answers it, or changes nothing.
+pub item-reached : EveryItem
+unfolding taken
+item-reached o calls t rows here d h index origin at =
+    record {
+      report = λ place r e. rw e (made (item-in-range d origin at h (item-read d index _ e)));
+      farewell = λ place source e. rw e (made (item-in-range d origin at h (item-read d index _ e)));
+      settings = λ place s e. rw e refl;
+      refusal = λ r e. rw e refl;
+    }
+  where
+    made : {call : Call} → AllInRange (call ∷ []) → OneMade o calls t rows call (called t call)
+    made {call} = call-made o calls t rows here call

@@ -1,6 +1,6 @@
 -- Demand 3 of the calls that take in what was read, a whole datagram (`take_datagram`) or the item at an index
--- (`Table::intake`): of a table that was reached they leave one that is reached, and what they give are the register's
--- answers.
+-- (`Table::intake`): from a reached table they hand back a reached one, and what they give are the register's answers. To
+-- be believed besides: `callsIn` (Feeding), `recordOf` (table Intake), and what reading gives (rtcp Datagram, Answers).
 use Prim.Native.Nat.{ℕ, _≤_, _<_}
 use mathlib.Core.Path.{_≡_}
 use mathlib.Core.List.{List, [], _∷_, _++_}
@@ -12,6 +12,7 @@ use Rattle.idms.specs.declared.Report.{Report}
 use Rattle.idms.specs.declared.Settings.{Settings}
 use Rattle.origin.specs.declared.Origin.{Origin}
 use Rattle.rtcp.specs.Refusals.{passed, refused, shortBuffer}
+use Rattle.rtcp.specs.Bytes.{AreBytes}
 use Rattle.rtcp.specs.Datagram.{datagramCheck, datagramItems}
 use Rattle.rtcp.specs.Answers.{itemOf}
 use Rattle.register.specs.declared.Reading.{Reading}
@@ -25,57 +26,64 @@ use Rattle.intake.specs.Feeding.{callsIn, fed, answersAfter}
 
 -- ---- a datagram
 
--- the calls that a datagram is
+-- one call for each report and each farewell in it, in the order of items
 abbrev pub datagramCalls : List ℕ → Origin → Reading → List Call
 datagramCalls d origin at = callsIn origin at (datagramItems d)
 
--- of a table that calls reached: a datagram with its origin and its reading, and the list lent for the numbers
+-- a table that calls reached; a datagram with its origin and its reading; and the list lent for the numbers
 module _
     (o : Opening) (calls : List Call) (t : Table) (rows : Rows)
     (d : List ℕ) (origin : Origin) (at : Reading) (lent : List ℕ) where
   -- the datagram's calls are made
-  pub record CallsMade : Type 0 where
+  pub record AllMade : Type 0 where
     -- the table is reached by the calls before and then the datagram's
     pub reached :
         Reached o (calls ++ datagramCalls d origin at) (fed t d origin at lent .table)
         (afterAll o rows (datagramCalls d origin at))
-    -- the register's answers to them are put into the list, and behind them it is as it was
+    -- the register's answers to them, which are behind those to the calls before, are put into the list; behind them it is
+    -- as it was
     pub numbers :
         answersAfter t d origin at lent
-        ≡ answers o rows (datagramCalls d origin at) ++ drop (length (datagramCalls d origin at)) lent
-    -- these are what the register answers behind its answers to the calls before
-    pub later :
-        answers o [] (calls ++ datagramCalls d origin at)
-        ≡ answers o [] calls ++ answers o rows (datagramCalls d origin at)
+        ≡ drop (length calls) (answers o [] (calls ++ datagramCalls d origin at))
+        ++ drop (length (datagramCalls d origin at)) lent
     -- there is no refusal
     pub number : fed t d origin at lent .number ≡ 0
-    -- the calls are counted
+    pub place : fed t d origin at lent .place ≡ 0
+    -- how many calls were made
     pub count : fed t d origin at lent .count ≡ length (datagramCalls d origin at)
 
-  -- no call is made, for the reason that a number gives
-  pub record NoneMade (why : ℕ) : Type 0 where
+  -- no call is made, and the answer is this refusal
+  pub record NoneMade (refusal at-byte : ℕ) : Type 0 where
     -- the table is reached by the calls before alone
     pub reached : Reached o calls (fed t d origin at lent .table) rows
     -- the list is as it was
     pub numbers : answersAfter t d origin at lent ≡ lent
-    pub number : fed t d origin at lent .number ≡ why
+    pub number : fed t d origin at lent .number ≡ refusal
+    pub place : fed t d origin at lent .place ≡ at-byte
     pub count : fed t d origin at lent .count ≡ 0
 
   -- what demand 3 says of every datagram: all of its calls are made, or none
   pub record DatagramReached : Type 0 where
     -- not refused, and the list is long enough
-    pub made : datagramCheck d ≡ passed → length (datagramCalls d origin at) ≤ length lent → CallsMade
+    pub made : datagramCheck d ≡ passed → length (datagramCalls d origin at) ≤ length lent → AllMade
     -- refused
-    pub unread : (number place : ℕ) → datagramCheck d ≡ refused number place → NoneMade number
+    pub unread : (number place : ℕ) → datagramCheck d ≡ refused number place → NoneMade number place
     -- the list is too short
-    pub short : datagramCheck d ≡ passed → length lent < length (datagramCalls d origin at) → NoneMade shortBuffer
+    pub short : datagramCheck d ≡ passed → length lent < length (datagramCalls d origin at) → NoneMade shortBuffer 0
+
+-- from every reached table, of every datagram of bytes
+abbrev pub EveryDatagram : Type 0
+EveryDatagram =
+    (o : Opening) (calls : List Call) (t : Table) (rows : Rows) → Reached o calls t rows →
+    (d : List ℕ) → AreBytes d → (origin : Origin) (at : Reading) (lent : List ℕ) →
+    DatagramReached o calls t rows d origin at lent
 
 -- ---- the item at an index
 
--- of a table that calls reached: what the intake makes of the reader's answer
+-- a table that calls reached, and what the intake makes of the reader's answer
 module _ (o : Opening) (calls : List Call) (t : Table) (rows : Rows) where
-  -- a call is made
-  pub record CallMade (call : Call) (result : Taken) : Type 0 where
+  -- one call is made
+  pub record OneMade (call : Call) (result : Taken) : Type 0 where
     -- the table is reached by the calls before and this one
     pub reached : Reached o (calls ++ call ∷ []) (result .table) (after o rows call)
     -- the outcome is the register's answer to it
@@ -85,13 +93,21 @@ module _ (o : Opening) (calls : List Call) (t : Table) (rows : Rows) where
   pub record ItemReached (d : List ℕ) (index : ℕ) (origin : Origin) (at : Reading) : Type 0 where
     pub report :
         (place : ℕ) (r : Report) → itemOf d index ≡ Found.Item (record { place = place; item = Item.Report r })
-        → CallMade (Call.report (recordOf r origin) at) (taken t (itemOf d index) origin at)
+        → OneMade (Call.report (recordOf r origin) at) (taken t (itemOf d index) origin at)
     pub farewell :
         (place source : ℕ) → itemOf d index ≡ Found.Item (record { place = place; item = Item.Farewell source })
-        → CallMade (Call.farewell source origin) (taken t (itemOf d index) origin at)
+        → OneMade (Call.farewell source origin) (taken t (itemOf d index) origin at)
     pub settings :
         (place : ℕ) (s : Settings) → itemOf d index ≡ Found.Item (record { place = place; item = Item.Settings s })
         → taken t (itemOf d index) origin at ≡ record { outcome = Outcome.Passed; table = t }
-    pub unread :
+    -- refused, 9 included
+    pub refusal :
         (r : Refusal) → itemOf d index ≡ Found.Refused r
         → taken t (itemOf d index) origin at ≡ record { outcome = Outcome.Unread r; table = t }
+
+-- from every reached table, of every datagram of bytes, at every index
+abbrev pub EveryItem : Type 0
+EveryItem =
+    (o : Opening) (calls : List Call) (t : Table) (rows : Rows) → Reached o calls t rows →
+    (d : List ℕ) → AreBytes d → (index : ℕ) (origin : Origin) (at : Reading) →
+    ItemReached o calls t rows d index origin at

@@ -1,7 +1,8 @@
 -- Calls after calls: the register goes on from the rows that the first of them left.
-use Prim.Native.Nat.{ℕ}
+use Prim.Native.Nat.{ℕ, suc}
 use mathlib.Core.Path.{_≡_, refl, ap}
 use mathlib.Core.List.{List, [], _∷_, _++_}
+use lib.ListN.{length}
 use Rattle.register.specs.Register.{Opening, Rows, Call, answer, after, answers, afterAll}
 use Rattle.register.specs.Promise.{AllInRange}
 
@@ -11,6 +12,12 @@ pub rows-append :
 unfolding afterAll
 rows-append o rows [] more = refl
 rows-append o rows (call ∷ calls) more = rows-append o (after o rows call) calls more
+
+-- one answer for each call
+pub length-answers : (o : Opening) (rows : Rows) (calls : List Call) → length (answers o rows calls) ≡ length calls
+unfolding answers
+length-answers o rows [] = refl
+length-answers o rows (call ∷ calls) = ap suc (length-answers o (after o rows call) calls)
 
 pub answers-append :
     (o : Opening) (rows : Rows) (calls more : List Call) →

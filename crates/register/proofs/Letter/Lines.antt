@@ -107,8 +107,7 @@ none-more : (lines : List Line) (line : Line) → NoneOf (lines ++ (line ∷ [])
 unfolding NoneOf
 none-more [] line = (λ none. (tt, none .0), λ both. (both .1, tt))
 none-more (first ∷ lines) line =
-    let rest : _ = none-more lines line in
-    (
+    let rest : _ = none-more lines line in (
       λ none. let both : _ = rest .0 (none .1) in ((none .0, both .0), both .1),
       λ both. (both .0 .0, rest .1 (both .0 .1, both .1)),
     )
@@ -121,8 +120,7 @@ unfolding MeansBehind
 ruled-out earlier never number [] apart = (λ e. absurd (differs number 0 apart e), λ none. absurd (never none))
 ruled-out earlier never number (line ∷ lines) apart =
     let both : _ = and-true (not (eqb number (line .number))) (isApart number lines) apart in
-    let still : NoneOf (earlier ++ (line ∷ [])) → ⊥ = λ none. never (none-more earlier line .0 none .0) in
-    (
+    let still : NoneOf (earlier ++ (line ∷ [])) → ⊥ = λ none. never (none-more earlier line .0 none .0) in (
       (λ e. absurd (differs number (line .number) (both .0) e), λ applies. absurd (never (applies .0))),
       ruled-out (earlier ++ (line ∷ [])) still number lines (both .1),
     )
@@ -148,15 +146,13 @@ unfolding MeansBehind
 first-means-behind earlier none [] [] tell apart = (λ e. none, λ n. refl)
 first-means-behind earlier none (line ∷ lines) (true ∷ ts) tell apart =
     let both : _ = and-true (isApart (line .number) lines) (areApart lines) apart in
-    let applies : line .Applies = tell .0 .0 refl in
-    (
+    let applies : line .Applies = tell .0 .0 refl in (
       (λ e. (none, applies), λ n. refl),
       ruled-out (earlier ++ (line ∷ [])) (λ n. none-more earlier line .0 n .1 applies) (line .number) lines (both .0),
     )
 first-means-behind earlier none (line ∷ lines) (false ∷ ts) tell apart =
     let both : _ = and-true (isApart (line .number) lines) (areApart lines) apart in
-    let passed : line .Applies → ⊥ = λ applies. clash (tell .0 .1 applies) in
-    (
+    let passed : line .Applies → ⊥ = λ applies. clash (tell .0 .1 applies) in (
       (
         λ e. absurd (first-apart (line .number) lines ts (tell .1) (both .0) e),
         λ applies. absurd (passed (applies .1)),
