@@ -9,11 +9,11 @@ use crate::units::usual_reading;
 use crate::words::text;
 
 // P1 with another received time.
-fn received(b: Bench, words: &[u8], received: u64, expected: u64) -> Bench {
+fn received(b: Bench, words: &[u8], ntp: u64, expected: u64) -> Bench {
     tried(
         b,
         words,
-        unit(10, received, 8910000, 0x03E78000),
+        unit(10, ntp, 8910000, 0x03E78000),
         usual_reading(),
         expected,
     )

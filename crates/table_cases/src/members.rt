@@ -63,7 +63,7 @@ pub(crate) fn second(source: u32) -> Record {
 }
 
 // P1 with another presented time.
-pub(crate) fn presented(source: u32, presented: u32) -> Record {
+pub(crate) fn at_presented(source: u32, presented: u32) -> Record {
     member(source, time(999, 0), 8910000, presented)
 }
 

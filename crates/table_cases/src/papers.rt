@@ -1,8 +1,8 @@
 // Openings, and document 01's cases P1 to P10 that concern the table.
+use crate::members::at_presented;
 use crate::members::at_rtp;
 use crate::members::first;
 use crate::members::member;
-use crate::members::presented;
 use crate::members::reading;
 use crate::members::second;
 use crate::members::time;
@@ -43,7 +43,7 @@ pub(crate) fn p1_to_p4() {
     one(b"P1", first(10));
     one(b"P2", second(20));
     two(b"P3", first(10), second(20));
-    two(b"P4", presented(10, 0x03E7C000), second(20));
+    two(b"P4", at_presented(10, 0x03E7C000), second(20));
 }
 
 fn p6_and_p7() {
@@ -81,8 +81,8 @@ fn p9_and_p10() {
     let c = report(b, at_rtp(10, 9000001), at);
     report(c, at_rtp(10, 9000000), at);
     title(b"P10");
-    let d = report(usual(), presented(10, 0x04050000), at);
-    report(d, presented(10, 0x04050001), at);
+    let d = report(usual(), at_presented(10, 0x04050000), at);
+    report(d, at_presented(10, 0x04050001), at);
 }
 
 pub(crate) fn p6_to_p10() {

@@ -68,9 +68,9 @@ pub(crate) fn members(t: Table) {
     print_line_end();
 }
 
-pub(crate) fn place(t: Table, place: usize) {
-    print_number(b"place ", place as u64);
-    let seat = t.member_at(place);
+pub(crate) fn place(t: Table, at: usize) {
+    print_number(b"place ", at as u64);
+    let seat = t.member_at(at);
     if seat.held != 0 {
         let member = seat.member;
         print_number(b" source ", member.source as u64);

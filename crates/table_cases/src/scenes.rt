@@ -1,11 +1,11 @@
 // Scenes of more than one call: twins, a full table, wrapped readings, arrival mode, and nothing to follow.
 use crate::members::arriving;
+use crate::members::at_presented;
 use crate::members::first;
 use crate::members::from;
 use crate::members::member;
 use crate::members::of;
 use crate::members::origin;
-use crate::members::presented;
 use crate::members::reading;
 use crate::members::second;
 use crate::members::time;
@@ -163,7 +163,7 @@ pub(crate) fn higher_number_first() {
     title(b"tie, the higher number first");
     let at = usual_reading();
     let a = report(usual(), second(20), at);
-    choose(report(a, presented(10, 0x03E7C000), at), at);
+    choose(report(a, at_presented(10, 0x03E7C000), at), at);
 }
 
 // The high byte of the port, and the first byte of the address.
@@ -188,5 +188,5 @@ pub(crate) fn low_bits() {
         member(10, time(999, 65535), 8910000, 0x03E70001),
         at,
     );
-    report(choose(a, at), presented(10, 0x03E70000), at);
+    report(choose(a, at), at_presented(10, 0x03E70000), at);
 }
