@@ -120,16 +120,16 @@ fn is_bad_first(p: usize, kind: u8) -> bool
 }
 
 // Check 5: each type with its own least content.
-pub(crate) fn is_short(kind: u8, count: usize, content: usize) -> bool
+pub(crate) fn is_short(kind: u8, count: usize, bytes: usize) -> bool
     requires { ⌜ count < 32 ⌝ }
-    ensures { λ r. ⌜ r ≡ contentIsShort kind count content ⌝ }
+    ensures { λ r. ⌜ r ≡ contentIsShort kind count bytes ⌝ }
 {
     match kind {
-        200 => content < 28 + 24 * count,
-        201 => content < 8 + 24 * count,
-        203 => content < 4 + 4 * count,
-        207 => content < 8,
-        211 => content != 36,
+        200 => bytes < 28 + 24 * count,
+        201 => bytes < 8 + 24 * count,
+        203 => bytes < 4 + 4 * count,
+        207 => bytes < 8,
+        211 => bytes != 36,
         0..=199 | 202 | 204..=206 | 208..=210 | 212..=255 => false,
     }
 }
