@@ -9,7 +9,7 @@ use Rattle.register.specs.declared.Record.{Record}
 use Rattle.register.specs.declared.Reading.{Reading}
 use Rattle.register.specs.Register.{Opening, Rows, Call, presents, isOtherStream, reportChecks, answers, afterAll}
 use Rattle.register.specs.Promise.{InRange, AllInRange}
-use Rattle.register.specs.Letter.{got, History, history, madeIn, OtherStream, BadlyPresented, Stands, linesOf, NoneOf, MeansBehind, Means}
+use Rattle.register.specs.Letter.{got, History, history, madeIn, Stands, linesOf, NoneOf, MeansBehind, Means}
 use Rattle.register.proofs.Letter.Lines.{untold}
 use Rattle.register.proofs.Letter.Tests.{own-stream, tells-badly-presented}
 use Rattle.register.proofs.Letter.Theorem.{made-of, letter}

@@ -31,7 +31,7 @@ use Rattle.table.specs.declared.Seat.{Seat}
 use Rattle.table.specs.Members.{nowhere, membersOf, countOf, seatAt, vacant, emptyTable}
 use Rattle.table.specs.Calls.{opened, answered}
 use Rattle.table.specs.Choose.{choiceOf}
-use Rattle.table.specs.History.{answersFrom, tableFrom, Shows, IsShown, OpeningMeans, Agree, Reached, Demand3, EveryList}
+use Rattle.table.specs.History.{answersFrom, tableFrom, Shows, IsShown, OpeningMeans, Agree, Reached, EveryList}
 use Rattle.table.proofs.Seats.{rows-none, member-at-place, place-of-member, place-once}
 use Rattle.table.proofs.Agreement.Calls.{Holds, rows-count, number-same, answered-holds}
 use Rattle.table.proofs.Agreement.Following.{choice-of-members}
