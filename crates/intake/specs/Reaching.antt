@@ -1,6 +1,7 @@
 -- Demand 3 of the calls that take in what was read, a whole datagram (`take_datagram`) or the item at an index
--- (`Table::intake`): from a reached table they hand back a reached one, and what they give are the register's answers. To
--- be believed besides: `callsIn` (Feeding), `recordOf` (table Intake), and what reading gives (rtcp Datagram, Answers).
+-- (`Table::intake`): from a reached table they hand back a reached one, and what they give are the register's answers.
+-- To be believed besides: `callsIn` (Feeding), `recordOf` (table Intake), and what reading gives (rtcp Datagram,
+-- Answers).
 use Prim.Native.Nat.{ℕ, _≤_, _<_}
 use mathlib.Core.Path.{_≡_}
 use mathlib.Core.List.{List, [], _∷_, _++_}
@@ -40,8 +41,8 @@ module _
     pub reached :
         Reached o (calls ++ datagramCalls d origin at) (fed t d origin at lent .table)
         (afterAll o rows (datagramCalls d origin at))
-    -- the register's answers to them, which are behind those to the calls before, are put into the list; behind them it is
-    -- as it was
+    -- the register's answers to them, which are behind those to the calls before, are put into the list; behind them
+    -- it is as it was
     pub numbers :
         answersAfter t d origin at lent
         ≡ drop (length calls) (answers o [] (calls ++ datagramCalls d origin at))

@@ -1,6 +1,6 @@
--- What demand 3 says of members and twins, and what each answer means, in the words of the letter and of the papers' table
--- of refusal numbers, over what the customer sees: the calls of a list, the answer that each got, and the members shown.
--- Nothing here is kept from call to call: who is a member follows from the list.
+-- What demand 3 says of members and twins, and what each answer means, in the words of the letter and of the papers'
+-- table of refusal numbers, over what the customer sees: the calls of a list, the answer that each got, and the
+-- members shown. Nothing here is kept from call to call: who is a member follows from the list.
 use Prim.Native.Nat.{ℕ, _*_, _^_, _<_}
 use mathlib.Core.List.{List, [], _∷_, _++_, List·Memᴰ}
 use mathlib.Core.Logic.{_⊎_, _↔_}
@@ -60,8 +60,8 @@ ReceivedFar at x = 30 * 2 ^ 32 < ntpAge (at .ntp) (x .report .received)
 abbrev pub RtpAged : Opening → Reading → Record → Type 0
 RtpAged o at x = 60 * o .rate < rtpAge (at .rtp) (x .report .rtp)
 
--- 17, only where P is 1, which any number but 0 stands for: presentation delay over 30 s, or expanded presentation equal
--- to 0
+-- 17, only where P is 1, which any number but 0 stands for: presentation delay over 30 s, or expanded presentation
+-- equal to 0
 abbrev pub BadlyPresented : Record → Type 0
 BadlyPresented x =
     (x .report .p ≡ 0 → ⊥)
@@ -80,9 +80,9 @@ Ends o x (got (Call.report y at) number) = (y .source ≡ x .source) × (number 
 Ends o x (got (Call.farewell source origin) number) = (source ≡ x .source) × (number ≡ 0)
 Ends o x (got (Call.sweep at) number) = StillFresh o at x → ⊥
 
--- a member stands on the last report accepted under its source number: the history has this very report, number, origin
--- and every field, answered 0, and behind it nothing that ends its standing. That no other origin's report is answered 0
--- while it stands is line 14, below.
+-- a member stands on the last report accepted under its source number: the history has this very report, number,
+-- origin and every field, answered 0, and behind it nothing that ends its standing. That no other origin's report is
+-- answered 0 while it stands is line 14, below.
 pub record Stands (o : Opening) (h : History) (x : Record) : Type 0 where
   pub before : History
   pub at : Reading
@@ -140,8 +140,8 @@ unfoldable pub NoneOf : List Line → Type 0
 NoneOf [] = Unit
 NoneOf (line ∷ lines) = (line .Applies → ⊥) × NoneOf lines
 
--- behind earlier lines, an answer is a line's number exactly where it applies and none before it does, and 0 exactly where
--- none applies
+-- behind earlier lines, an answer is a line's number exactly where it applies and none before it does, and 0 exactly
+-- where none applies
 unfoldable pub MeansBehind : (earlier lines : List Line) → ℕ → Type 0
 MeansBehind earlier [] number = (number ≡ 0) ↔ NoneOf earlier
 MeansBehind earlier (line ∷ lines) number =

@@ -294,7 +294,8 @@ first-once :
     isHeld place (word / 2) ≡ true → place < length ms → getD ms place nowhere .source ≡ m .source → ⊥
 first-once word m ms u place first held h same =
     let rows : _ = rows-held word m ms (not-yes (isFree word) first) in
-    alone m (getD ms place nowhere) (rowsAt (word / 2) ms) (rw rows at u) (member-at-place (word / 2) place ms held h) same
+    alone m (getD ms place nowhere) (rowsAt (word / 2) ms) (rw rows at u)
+    (member-at-place (word / 2) place ms held h) same
 
 pub place-once :
     (word : ℕ) (ms : Rows) → Unique (rowsAt word ms) → (p q : ℕ) → isHeld p word ≡ true → isHeld q word ≡ true →

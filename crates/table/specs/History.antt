@@ -2,14 +2,14 @@
 -- one before handed back.
 --
 -- To be believed, besides this file:
---   `times` Times: ages, delay, expanded presentation, fresh;
---   `register`: the records (src/lib.rt); Letter: members, twins and what each answer means; Choosing and Promise: what is
---   chosen and what is promised of it; of Register `Opening`, `Call` and what Choosing and Promise use of it. The rest of
---   Register is the papers' plain register, and is believed for the sentence that answers and members are exactly its own.
--- No belief needs what the contracts tie to code: `opened`, `answered`, `chosenOf`, `seatAt` and `countOf` stand here as what
--- `Table::open`, `report`, `farewell`, `sweep`, `choose`, `member_at` and `count` answer, whatever that is; nor what lies
--- below them (Members, Calls, Choose, Leader, Lateness). `opening` and `members` of `Agree` look into the table for the proofs
--- above; the fields behind them say the same of the public calls.
+--   of `times` Times: ages, delay, expanded presentation, fresh;
+--   of `register` the records (src/lib.rt); Letter: members, twins and what each answer means; Choosing and Promise:
+--   what is chosen and what is promised of it; of Register `Opening`, `Call` and what Choosing and Promise use. The
+--   rest of Register is the papers' plain register, believed for the sentence that answers and members are its own.
+-- No belief needs what the contracts tie to code: `opened`, `answered`, `chosenOf`, `seatAt` and `countOf` stand here
+-- as what `Table::open`, `report`, `farewell`, `sweep`, `choose`, `member_at` and `count` answer, whatever that is; nor
+-- what lies below them (Members, Calls, Choose, Leader, Lateness). `opening` and `members` of `Agree` look into the
+-- table for the proofs above; the fields behind them say the same of the public calls.
 use Prim.Native.Nat.{ℕ, _<_}
 use mathlib.Core.Path.{_≡_}
 use mathlib.Core.List.{List, [], _∷_, List·Memᴰ, List·Permᴰ}
@@ -61,8 +61,8 @@ pub record Agree (o : Opening) (t : Table) (rows : Rows) : Type 0 where
   pub members : List·Permᴰ (membersOf t) rows
   pub unique : Unique rows
   pub own : (row : Record) → List·Memᴰ row rows → (row .report .group ≡ o .group) × (row .report .media ≡ o .media)
-  -- as the public calls show them: the count is that of the rows, a place that is not shown free shows a row, each row is
-  -- shown, and no number at two places
+  -- as the public calls show them: the count is that of the rows, a place that is not shown free shows a row, each row
+  -- is shown, and no number at two places
   pub count : countOf t ≡ length rows
   pub seats :
       (place : ℕ) → (seatAt t place .held ≡ 0 → ⊥) →
@@ -90,4 +90,6 @@ pub record Demand3 (o : Opening) (calls : List Call) (t : Table) (rows : Rows) :
 
 -- demand 3: whatever the opening, the list of calls, and the table and rows that they leave
 abbrev pub EveryList : Type 0
-EveryList = (o : Opening) (calls : List Call) (t : Table) (rows : Rows) → Reached o calls t rows → Demand3 o calls t rows
+EveryList =
+    (o : Opening) (calls : List Call) (t : Table) (rows : Rows) → Reached o calls t rows →
+    Demand3 o calls t rows

@@ -157,7 +157,8 @@ first-means-behind earlier none (line ∷ lines) (false ∷ ts) tell apart =
         λ e. absurd (first-apart (line .number) lines ts (tell .1) (both .0) e),
         λ applies. absurd (passed (applies .1)),
       ),
-      first-means-behind (earlier ++ (line ∷ [])) (none-more earlier line .1 (none, passed)) lines ts (tell .1) (both .1),
+      first-means-behind (earlier ++ (line ∷ [])) (none-more earlier line .1 (none, passed)) lines ts (tell .1)
+          (both .1),
     )
 
 pub first-means :

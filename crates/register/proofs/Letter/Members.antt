@@ -60,8 +60,8 @@ pub each-none : (Says : History → Call → ℕ → Type 0) → OfEachCall Says
 each-none Says before call number behind e = absurd (no-cons before (got call number) behind e)
 
 pub each-more :
-    (Says : History → Call → ℕ → Type 0) (h : History) (call : Call) (number : ℕ) → OfEachCall Says h → Says h call number →
-    OfEachCall Says (h ++ (got call number ∷ []))
+    (Says : History → Call → ℕ → Type 0) (h : History) (call : Call) (number : ℕ) → OfEachCall Says h →
+    Says h call number → OfEachCall Says (h ++ (got call number ∷ []))
 each-more Says h call number each says before call′ number′ behind p =
     go (split-last h (got call number) before (got call′ number′) behind p)
   where

@@ -114,7 +114,8 @@ module _ (o : Opening) (h : History) (rows : Rows) (all : AreAll o h rows) where
         let both : _ = own (found .0) .0 (found .2) in
         (found .0, all .those (found .0) .0 (found .1), both .0, both .1),
     λ found.
-        tells-some there rows .1 (found .0, all .those (found .0) .1 (found .1), own (found .0) .1 (found .2, found .3)),
+        tells-some there rows .1
+        (found .0, all .those (found .0) .1 (found .1), own (found .0) .1 (found .2, found .3)),
   )
     where
       there : Record → Bool
