@@ -4,8 +4,8 @@ ghost use mathlib.Core.Path.{_≡_};
 ghost use Prim.Native.Nat.{_≤_};
 ghost use Rattle.idms.specs.Rows.{rowOf, columnsOf, fieldOf};
 
-// An IDMS report block (RFC 7272 section 6) with the SSRC of the XR packet's sender. The reader gives `presented` 0 where
-// `p` is false; the type does not say so, and the writer refuses any other value there.
+// An IDMS report block (RFC 7272 section 6) with the SSRC of the XR packet's sender. The reader gives `presented` 0
+// where `p` is false; the type does not say so, and the writer refuses any other value there.
 pub struct Report {
     pub sender: u32,
     pub payload_type: u8,
