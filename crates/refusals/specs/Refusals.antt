@@ -1,0 +1,79 @@
+-- The refusal numbers (document 01, "Refusal numbers"), each once for all definitions. The code has them under the same
+-- names (src/lib.rt). There is no number 8.
+use Prim.Native.Nat.{ℕ}
+
+-- datagram length is 0, not a multiple of 4, or over 2,048
+abbrev pub badLength : ℕ
+badLength = 1
+
+-- version is not 2, or the packet runs past the end
+abbrev pub badPacket : ℕ
+badPacket = 2
+
+-- bad padding
+abbrev pub badPadding : ℕ
+badPadding = 3
+
+-- first packet is neither 200 nor 201
+abbrev pub badFirst : ℕ
+badFirst = 4
+
+-- content too short for its type; for 211, not exactly 36 bytes
+abbrev pub shortContent : ℕ
+shortContent = 5
+
+-- an XR block runs past the content
+abbrev pub blockPastEnd : ℕ
+blockPastEnd = 6
+
+-- block type 12 with block length other than 7
+abbrev pub badBlockLength : ℕ
+badBlockLength = 7
+
+-- item index not below the item count
+abbrev pub noSuchItem : ℕ
+noSuchItem = 9
+
+-- buffer shorter than the message
+abbrev pub shortBuffer : ℕ
+shortBuffer = 10
+
+-- a field to be written is out of range
+abbrev pub outOfRange : ℕ
+outOfRange = 11
+
+-- group 0 or 4,294,967,295, or rate outside 1 to 192,000
+abbrev pub badOpening : ℕ
+badOpening = 12
+
+-- report of another group or media source
+abbrev pub otherStream : ℕ
+otherStream = 13
+
+-- source number held by another origin
+abbrev pub otherOrigin : ℕ
+otherOrigin = 14
+
+-- received time not within 30 s at or before the sender's reading
+abbrev pub receivedFar : ℕ
+receivedFar = 15
+
+-- RTP age above 60 seconds of media clock
+abbrev pub rtpAged : ℕ
+rtpAged = 16
+
+-- presentation delay over 30 s, or expanded presentation equal to 0
+abbrev pub badlyPresented : ℕ
+badlyPresented = 17
+
+-- new member, and 64 places held
+abbrev pub noRoom : ℕ
+noRoom = 18
+
+-- farewell from a source number not held
+abbrev pub noMember : ℕ
+noMember = 19
+
+-- no fresh member to follow
+abbrev pub noneCounted : ℕ
+noneCounted = 20
