@@ -24,7 +24,7 @@ test:
 
 run:
 	rt check receiving_bench
-	target/bin/receiving_bench
+	target/bin/receiving_bench < crates/receiving_bench/stdin
 
 show:
 	rt check show_datagram
@@ -63,4 +63,4 @@ fuzz-faults: archive
 	tools/fuzz-faults
 
 clean:
-	rm -rf target tests/target bench/target
+	rm -rf target bindings/target tests/target bench/target

@@ -229,13 +229,13 @@ static void show_member(FILE *out, const struct prunepocket_record *member)
 
 static void show_members(FILE *out, const struct prunepocket_table *table)
 {
-    if (prunepocket_members(*table) == 0)
+    if (prunepocket_count_members(*table) == 0)
         fputs("  no members\n", out);
     for (size_t place = 0; place < PRUNEPOCKET_PLACES; place++) {
-        struct prunepocket_seat seat = prunepocket_member_at(*table, place);
+        struct prunepocket_place at = prunepocket_member_at(*table, place);
 
-        if (seat.held)
-            show_member(out, &seat.member);
+        if (at.held)
+            show_member(out, &at.member);
     }
 }
 
@@ -272,9 +272,9 @@ struct host {
     FILE *out;
 };
 
-/* What became of a datagram: its refusal, or else its items with an answer to each. */
+/* What became of a datagram: the reader's answer, and its items with a number for each. */
 struct taken {
-    struct prunepocket_refusal refusal;
+    struct prunepocket_answer answer;
     uint64_t items;
     uint64_t rows[MOST_ITEMS * PRUNEPOCKET_ROW];
     uint64_t answers[MOST_ITEMS];
@@ -288,7 +288,7 @@ static struct prunepocket_record record_of(const uint64_t *row, struct prunepock
         .report = {
             .received = row[PRUNEPOCKET_FIELD_RECEIVED],
             .group = (uint32_t)row[PRUNEPOCKET_FIELD_GROUP],
-            .media_source = (uint32_t)row[PRUNEPOCKET_FIELD_MEDIA_SOURCE],
+            .media = (uint32_t)row[PRUNEPOCKET_FIELD_MEDIA],
             .rtp = (uint32_t)row[PRUNEPOCKET_FIELD_RTP],
             .presented = (uint32_t)row[PRUNEPOCKET_FIELD_PRESENTED],
             .payload_type = (uint8_t)row[PRUNEPOCKET_FIELD_PAYLOAD_TYPE],
@@ -318,8 +318,8 @@ static void take_datagram(struct prunepocket_table *table, const uint8_t *datagr
                           struct taken *taken)
 {
     taken->items = 0;
-    taken->refusal = prunepocket_read_items(datagram, length, taken->rows,
-                                            MOST_ITEMS * PRUNEPOCKET_ROW, &taken->items);
+    taken->answer = prunepocket_read_items(datagram, length, taken->rows,
+                                           MOST_ITEMS * PRUNEPOCKET_ROW, &taken->items);
     for (uint64_t i = 0; i < taken->items; i++) {
         struct prunepocket_answered answered =
             take_item(*table, taken->rows + i * PRUNEPOCKET_ROW, origin, reading);
@@ -332,9 +332,9 @@ static void take_datagram(struct prunepocket_table *table, const uint8_t *datagr
 
 static void show_taken(FILE *out, const struct taken *taken)
 {
-    if (taken->refusal.number != PRUNEPOCKET_ACCEPTED)
-        fprintf(out, "  datagram refused %" PRIu64 " at %" PRIu64 "\n", taken->refusal.number,
-                taken->refusal.place);
+    if (taken->answer.number != PRUNEPOCKET_ACCEPTED)
+        fprintf(out, "  datagram refused %" PRIu64 " at %" PRIu64 "\n", taken->answer.number,
+                taken->answer.place);
     for (uint64_t i = 0; i < taken->items; i++)
         show_answer(out, taken->rows + i * PRUNEPOCKET_ROW, taken->answers[i]);
 }
@@ -354,13 +354,13 @@ static void send_settings(const struct host *host, const struct prunepocket_targ
 {
     uint8_t datagram[FRONT + PRUNEPOCKET_SETTINGS_BYTES];
     uint64_t written = 0;
-    struct prunepocket_refusal refusal;
+    struct prunepocket_answer answer;
 
     put_front(datagram, HOST);
-    refusal = prunepocket_write_settings(HOST, target->group, target->media_source,
-                                         target->received, target->rtp, target->presented,
-                                         datagram + FRONT, sizeof datagram - FRONT, &written);
-    must_be_accepted("settings", refusal.number);
+    answer = prunepocket_write_settings(HOST, target->group, target->media, target->received,
+                                        target->rtp, target->presented, datagram + FRONT,
+                                        sizeof datagram - FRONT, &written);
+    must_be_accepted("settings", answer.number);
     if (sendto(host->socket, datagram, FRONT + written, 0, &to->any, to->length) < 0)
         die("sending settings");
 }
@@ -434,11 +434,11 @@ enum message { REPORT, CUT_REPORT, FAREWELL };
 static size_t put_report(uint8_t *bytes, const struct unit *unit)
 {
     uint64_t written = 0;
-    struct prunepocket_refusal refusal = prunepocket_write_report(
+    struct prunepocket_answer answer = prunepocket_write_report(
         unit->source, PAYLOAD_TYPE, 1, GROUP, MEDIA, unit->received, unit->rtp,
         (uint32_t)(unit->presented >> 16), bytes, PRUNEPOCKET_REPORT_BYTES, &written);
 
-    must_be_accepted("a report", refusal.number);
+    must_be_accepted("a report", answer.number);
     return (size_t)written;
 }
 
@@ -465,10 +465,10 @@ static void send_message(FILE *out, int fd, const struct unit *unit, enum messag
 static bool read_settings(const uint8_t *datagram, size_t length, uint64_t row[PRUNEPOCKET_ROW])
 {
     uint64_t items = 0;
-    struct prunepocket_refusal refusal =
+    struct prunepocket_answer answer =
         prunepocket_read_items(datagram, length, row, PRUNEPOCKET_ROW, &items);
 
-    return refusal.number == PRUNEPOCKET_ACCEPTED && items == 1 &&
+    return answer.number == PRUNEPOCKET_ACCEPTED && items == 1 &&
            row[PRUNEPOCKET_FIELD_KIND] == PRUNEPOCKET_SETTINGS;
 }
 
@@ -495,11 +495,11 @@ static void expect(bool truth, const char *what)
 
 /* A datagram, and what becomes of it. */
 struct step {
-    int from;                       /* the loudspeaker that sends */
-    enum message message;           /* what it sends */
-    struct prunepocket_refusal due; /* the refusal of the datagram or of its item, or none */
-    uint32_t members;               /* how many there are afterwards */
-    int followed;                   /* the loudspeaker whose times are the target */
+    int from;                      /* the loudspeaker that sends */
+    enum message message;          /* what it sends */
+    struct prunepocket_answer due; /* the refusal of the datagram or of its item, or none */
+    uint32_t members;              /* how many there are afterwards */
+    int followed;                  /* the loudspeaker whose times are the target */
 };
 
 static const struct step steps[] = {
@@ -513,9 +513,9 @@ static const struct step steps[] = {
 };
 
 /* Either the datagram is refused, at its place, or its only item gets the number. */
-static void expect_taken(const struct taken *taken, struct prunepocket_refusal due)
+static void expect_taken(const struct taken *taken, struct prunepocket_answer due)
 {
-    struct prunepocket_refusal got = taken->refusal;
+    struct prunepocket_answer got = taken->answer;
 
     if (got.number == PRUNEPOCKET_ACCEPTED) {
         expect(taken->items == 1, "a datagram's items");
@@ -530,7 +530,7 @@ static void expect_settings(const uint64_t *row, const struct unit *followed)
 {
     expect(row[PRUNEPOCKET_FIELD_SOURCE] == HOST, "the settings' sender");
     expect(row[PRUNEPOCKET_FIELD_GROUP] == GROUP, "the settings' group");
-    expect(row[PRUNEPOCKET_FIELD_MEDIA_SOURCE] == MEDIA, "the settings' media source");
+    expect(row[PRUNEPOCKET_FIELD_MEDIA] == MEDIA, "the settings' media source");
     expect(row[PRUNEPOCKET_FIELD_RECEIVED] == followed->received, "the settings' received time");
     expect(row[PRUNEPOCKET_FIELD_RTP] == followed->rtp, "the settings' RTP time");
     expect(row[PRUNEPOCKET_FIELD_PRESENTED] == followed->presented, "the settings' presented time");
@@ -567,7 +567,7 @@ static void take_step(struct host *host, const int *sockets, const struct step *
     send_message(host->out, sockets[step->from], &units[step->from], step->message);
     serve(host, now, &taken);
     expect_taken(&taken, step->due);
-    expect(prunepocket_members(host->table) == step->members, "how many members there are");
+    expect(prunepocket_count_members(host->table) == step->members, "how many members there are");
     get_settings(host->out, sockets[step->from], step);
 }
 
@@ -575,8 +575,8 @@ static void fall_silent(struct host *host)
 {
     fputs("31 s later, nobody was heard again: sweep\n", host->out);
     sweep(host, later);
-    expect(prunepocket_members(host->table) == 0, "no members after the sweep");
-    expect(choose(host, later).number == PRUNEPOCKET_NONE_FRESH, "no target after the sweep");
+    expect(prunepocket_count_members(host->table) == 0, "no members after the sweep");
+    expect(choose(host, later).number == PRUNEPOCKET_NONE_COUNTED, "no target after the sweep");
 }
 
 static void run(int family, FILE *out)

@@ -78,7 +78,7 @@ static void take_report(const uint8_t *datagram, size_t place, uint32_t sender, 
     item->p = block[1] & 1;
     item->payload_type = block[4] >> 1;
     item->group = word(block + 8);
-    item->media_source = word(block + 12);
+    item->media = word(block + 12);
     item->received = two_words(block + 16);
     item->rtp = word(block + 24);
     if (item->p == 1 || DECODER_FAULT == 3)
@@ -90,7 +90,7 @@ static void take_settings(const uint8_t *datagram, size_t place, struct decoded 
     const uint8_t *packet = datagram + place;
     struct item *item = add(decoded, SETTINGS, place, word(packet + 4));
 
-    item->media_source = word(packet + 8);
+    item->media = word(packet + 8);
     item->group = word(packet + 12);
     item->received = two_words(packet + 16);
     item->rtp = word(packet + 24);

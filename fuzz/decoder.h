@@ -16,7 +16,7 @@ struct item {
     size_t place;
     uint32_t source;
     uint32_t group;
-    uint32_t media_source;
+    uint32_t media;
     uint64_t received;
     uint32_t rtp;
     uint64_t presented;

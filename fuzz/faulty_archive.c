@@ -17,8 +17,8 @@
 #define ARCHIVE_FAULT 0
 #endif
 
-struct prunepocket_refusal __real_prunepocket_read_items(const uint8_t *, size_t, uint64_t *, size_t, uint64_t *);
-struct prunepocket_refusal __wrap_prunepocket_read_items(const uint8_t *, size_t, uint64_t *, size_t, uint64_t *);
+struct prunepocket_answer __real_prunepocket_read_items(const uint8_t *, size_t, uint64_t *, size_t, uint64_t *);
+struct prunepocket_answer __wrap_prunepocket_read_items(const uint8_t *, size_t, uint64_t *, size_t, uint64_t *);
 struct prunepocket_answered __real_prunepocket_report(struct prunepocket_table, struct prunepocket_record,
                                                       struct prunepocket_reading);
 struct prunepocket_answered __wrap_prunepocket_report(struct prunepocket_table, struct prunepocket_record,
@@ -26,12 +26,12 @@ struct prunepocket_answered __wrap_prunepocket_report(struct prunepocket_table, 
 struct prunepocket_followed __real_prunepocket_choose(struct prunepocket_table, struct prunepocket_reading);
 struct prunepocket_followed __wrap_prunepocket_choose(struct prunepocket_table, struct prunepocket_reading);
 
-__attribute__((no_sanitize("all"))) struct prunepocket_refusal
+__attribute__((no_sanitize("all"))) struct prunepocket_answer
 __wrap_prunepocket_read_items(const uint8_t *datagram, size_t length, uint64_t *rows, size_t rows_length,
                               uint64_t *count)
 {
-    struct prunepocket_refusal refusal = __real_prunepocket_read_items(datagram, length, rows, rows_length, count);
-    size_t written = refusal.number == 0 ? PRUNEPOCKET_ROW * (size_t)*count : 0;
+    struct prunepocket_answer answer = __real_prunepocket_read_items(datagram, length, rows, rows_length, count);
+    size_t written = answer.number == 0 ? PRUNEPOCKET_ROW * (size_t)*count : 0;
 
     if (ARCHIVE_FAULT == 1 && written > 0)
         ((volatile uint64_t *)rows)[-1] = 1;
@@ -39,13 +39,13 @@ __wrap_prunepocket_read_items(const uint8_t *datagram, size_t length, uint64_t *
         rows[written] = 1;
     if (ARCHIVE_FAULT == 3 && written > 0 && written == rows_length)
         ((volatile uint64_t *)rows)[rows_length] = 1;
-    if (ARCHIVE_FAULT == 4 && refusal.number == PRUNEPOCKET_SHORT_BUFFER && rows_length > 0)
+    if (ARCHIVE_FAULT == 4 && answer.number == PRUNEPOCKET_SHORT_BUFFER && rows_length > 0)
         rows[0] = 1;
-    if (ARCHIVE_FAULT == 5 && refusal.number != 0)
+    if (ARCHIVE_FAULT == 5 && answer.number != 0)
         *count = 0;
     if (ARCHIVE_FAULT == 6 && length > 0)
         (void)((const volatile uint8_t *)datagram)[length];
-    return refusal;
+    return answer;
 }
 
 struct prunepocket_answered __wrap_prunepocket_report(struct prunepocket_table table, struct prunepocket_record record,

@@ -74,7 +74,7 @@ static void same(const char *what, uint64_t archive, uint64_t decoder)
         differ(what, archive, decoder);
 }
 
-static void same_refusal(const char *what, struct prunepocket_refusal archive, uint64_t number, uint64_t place)
+static void same_answer(const char *what, struct prunepocket_answer archive, uint64_t number, uint64_t place)
 {
     if (archive.number != number)
         fprintf(stderr, "at %" PRIu64 " and %" PRIu64 ": ", archive.place, place);
@@ -109,7 +109,7 @@ static void columns(const struct item *item, uint64_t row[PRUNEPOCKET_ROW])
     row[PRUNEPOCKET_FIELD_PLACE] = item->place;
     row[PRUNEPOCKET_FIELD_SOURCE] = item->source;
     row[PRUNEPOCKET_FIELD_GROUP] = item->group;
-    row[PRUNEPOCKET_FIELD_MEDIA_SOURCE] = item->media_source;
+    row[PRUNEPOCKET_FIELD_MEDIA] = item->media;
     row[PRUNEPOCKET_FIELD_RECEIVED] = item->received;
     row[PRUNEPOCKET_FIELD_RTP] = item->rtp;
     row[PRUNEPOCKET_FIELD_PRESENTED] = item->presented;
@@ -132,10 +132,10 @@ static uint64_t fields_of(enum kind kind)
 static void check_count(const uint8_t *datagram, size_t length, const struct decoded *decoded)
 {
     struct between count = filled();
-    struct prunepocket_refusal refusal = prunepocket_count_items(datagram, length, &count.number);
+    struct prunepocket_answer answer = prunepocket_count_items(datagram, length, &count.number);
 
     calls++;
-    same_refusal("count_items", refusal, decoded->refusal, decoded->place);
+    same_answer("count_items", answer, decoded->refusal, decoded->place);
     check_between("item count", &count, decoded->refusal ? fill(2) : decoded->count);
 }
 
@@ -153,11 +153,11 @@ static void check_rows(const uint8_t *datagram, size_t length, const struct deco
         guards[i] = fill(i);
 
     calls++;
-    struct prunepocket_refusal refusal = prunepocket_read_items(datagram, length, rows, rows_length, &count.number);
+    struct prunepocket_answer answer = prunepocket_read_items(datagram, length, rows, rows_length, &count.number);
 
     if (number == 0 && rows_length < needed)
         number = PRUNEPOCKET_SHORT_BUFFER;
-    same_refusal("read_items", refusal, number, decoded->place);
+    same_answer("read_items", answer, number, decoded->place);
     check_between("count of read_items", &count, number ? fill(2) : decoded->count);
 
     if (number == 0) {
@@ -187,9 +187,9 @@ static void check_field(const uint8_t *datagram, size_t length, const struct dec
         number = PRUNEPOCKET_NO_SUCH_ITEM;
 
     calls++;
-    struct prunepocket_refusal refusal = prunepocket_item_field(datagram, length, index, field, &value.number);
+    struct prunepocket_answer answer = prunepocket_item_field(datagram, length, index, field, &value.number);
 
-    same_refusal("item_field", refusal, number, decoded->place);
+    same_answer("item_field", answer, number, decoded->place);
     if (number == 0) {
         columns(&decoded->items[index], row);
         check_between("field", &value, row[field]);

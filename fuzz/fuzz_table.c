@@ -70,7 +70,7 @@ struct sides {
     struct prunepocket_table table;
     struct plain_register rows;
     /* Who should stand at each place, which the register does not know: a source number or NOBODY. */
-    int64_t seats[PRUNEPOCKET_PLACES];
+    int64_t places[PRUNEPOCKET_PLACES];
     unsigned calls;
 };
 
@@ -93,7 +93,7 @@ static struct prunepocket_record to_record(const struct row *row)
     record.origin = to_origin(&row->origin);
     record.report.received = row->report.received;
     record.report.group = row->report.group;
-    record.report.media_source = row->report.media_source;
+    record.report.media = row->report.media;
     record.report.rtp = row->report.rtp;
     record.report.presented = row->report.presented;
     record.report.payload_type = row->report.payload_type;
@@ -109,7 +109,7 @@ static void same_record(const struct prunepocket_record *archive, const struct p
     same("port of a member", archive->origin.port, expected->origin.port);
     same("received of a member", archive->report.received, expected->report.received);
     same("group of a member", archive->report.group, expected->report.group);
-    same("media source of a member", archive->report.media_source, expected->report.media_source);
+    same("media source of a member", archive->report.media, expected->report.media);
     same("rtp of a member", archive->report.rtp, expected->report.rtp);
     same("presented of a member", archive->report.presented, expected->report.presented);
     same("payload type of a member", archive->report.payload_type, expected->report.payload_type);
@@ -119,7 +119,7 @@ static void same_record(const struct prunepocket_record *archive, const struct p
 static void same_table(const struct prunepocket_table *archive, const struct prunepocket_table *before)
 {
     same("group of the table as before", archive->group, before->group);
-    same("media source of the table as before", archive->media_source, before->media_source);
+    same("media source of the table as before", archive->media, before->media);
     same("rate of the table as before", archive->rate, before->rate);
     same("places of the table as before", archive->held, before->held);
     /* Padding may differ, so only where the bytes do are the fields looked at. */
@@ -134,29 +134,29 @@ static void look(const struct sides *sides)
     size_t held = 0;
 
     looks++;
-    same("members", prunepocket_members(sides->table), sides->rows.count);
+    same("members", prunepocket_count_members(sides->table), sides->rows.count);
     for (size_t place = 0; place < PRUNEPOCKET_PLACES; place++) {
-        struct prunepocket_seat seat = prunepocket_member_at(sides->table, place);
-        bool expected = sides->seats[place] != NOBODY;
+        struct prunepocket_place at = prunepocket_member_at(sides->table, place);
+        bool expected = sides->places[place] != NOBODY;
 
-        same("held", seat.held, expected);
+        same("held", at.held, expected);
         if (expected) {
-            const struct row *row = register_row(&sides->rows, (uint32_t)sides->seats[place]);
+            const struct row *row = register_row(&sides->rows, (uint32_t)sides->places[place]);
             struct prunepocket_record record = to_record(row);
 
-            same_record(&seat.member, &record);
+            same_record(&at.member, &record);
             held++;
         } else {
-            same_record(&seat.member, &zeros);
+            same_record(&at.member, &zeros);
         }
     }
     same("places held", held, sides->rows.count);
     static const size_t outside[] = {PRUNEPOCKET_PLACES, 65, 128, SIZE_MAX};
     for (size_t i = 0; i < sizeof outside / sizeof outside[0]; i++) {
-        struct prunepocket_seat seat = prunepocket_member_at(sides->table, outside[i]);
+        struct prunepocket_place at = prunepocket_member_at(sides->table, outside[i]);
 
-        same("held behind the last place", seat.held, 0);
-        same_record(&seat.member, &zeros);
+        same("held behind the last place", at.held, 0);
+        same_record(&at.member, &zeros);
     }
 }
 
@@ -174,13 +174,13 @@ static void take(struct sides *sides, enum call call, const struct prunepocket_a
         most_rows = sides->rows.count;
     counters[BY_ROWS + sides->rows.count] = 1;
     if (number == 0)
-        same("members", prunepocket_members(sides->table), sides->rows.count);
+        same("members", prunepocket_count_members(sides->table), sides->rows.count);
 }
 
-static bool open_both(struct sides *sides, uint32_t group, uint32_t media_source, uint32_t rate)
+static bool open_both(struct sides *sides, uint32_t group, uint32_t media, uint32_t rate)
 {
-    unsigned number = register_open(&sides->rows, group, media_source, rate);
-    struct prunepocket_answered answered = prunepocket_open(group, media_source, rate);
+    unsigned number = register_open(&sides->rows, group, media, rate);
+    struct prunepocket_answered answered = prunepocket_open(group, media, rate);
 
     met[OPEN][number]++;
     counters[OPEN * NUMBERS + number] = 1;
@@ -189,7 +189,7 @@ static bool open_both(struct sides *sides, uint32_t group, uint32_t media_source
         return false;
     sides->table = answered.table;
     for (size_t place = 0; place < PRUNEPOCKET_PLACES; place++)
-        sides->seats[place] = NOBODY;
+        sides->places[place] = NOBODY;
     look(sides);
     return true;
 }
@@ -207,9 +207,9 @@ static void report_both(struct sides *sides, const struct row *row, struct clock
     if (number == 0 && !known) {
         size_t free = 0;
 
-        while (sides->seats[free] != NOBODY)
+        while (sides->places[free] != NOBODY)
             free++;
-        sides->seats[free] = row->source;
+        sides->places[free] = row->source;
     }
 }
 
@@ -217,8 +217,8 @@ static void report_both(struct sides *sides, const struct row *row, struct clock
 static void leave(struct sides *sides)
 {
     for (size_t place = 0; place < PRUNEPOCKET_PLACES; place++)
-        if (sides->seats[place] != NOBODY && !register_row(&sides->rows, (uint32_t)sides->seats[place]))
-            sides->seats[place] = NOBODY;
+        if (sides->places[place] != NOBODY && !register_row(&sides->rows, (uint32_t)sides->places[place]))
+            sides->places[place] = NOBODY;
 }
 
 static void farewell_both(struct sides *sides, uint32_t source, const struct from *origin)
@@ -262,7 +262,7 @@ static void choose_both(struct sides *sides, struct clocks now)
     same("choose", followed.number, expected.number);
     same("source of the target", followed.target.source, expected.source);
     same("group of the target", followed.target.group, expected.group);
-    same("media source of the target", followed.target.media_source, expected.media_source);
+    same("media source of the target", followed.target.media, expected.media);
     same("received of the target", followed.target.received, expected.received);
     same("rtp of the target", followed.target.rtp, expected.rtp);
     same("presented of the target", followed.target.presented, expected.presented);
@@ -453,12 +453,12 @@ static void describe(struct script *script, const struct sides *sides, struct to
     uint8_t said = byte(script);
 
     report->group = sides->rows.group;
-    report->media_source = sides->rows.media_source;
+    report->media = sides->rows.media;
     report->payload_type = said >> 1 & 0x7F;
     report->p = said & 1;
     if (said >= 240) {
         report->group ^= said & 2 ? 1 : 0;
-        report->media_source ^= said & 4 ? 0x80000000 : 0;
+        report->media ^= said & 4 ? 0x80000000 : 0;
         /* The header's word on any other P: it counts as 1 and is kept. */
         if (said & 8)
             report->p = byte(script);
@@ -469,7 +469,7 @@ static void call_script(struct script *script, struct sides *sides)
 {
     struct clocks now = {1000 * SECOND, 9000000};
     /* P1 of document 01, until the script says otherwise. */
-    struct told report = {999 * SECOND, sides->rows.group, sides->rows.media_source, 8910000, 0x03E78000, 33, 1};
+    struct told report = {999 * SECOND, sides->rows.group, sides->rows.media, 8910000, 0x03E78000, 33, 1};
     struct row row;
 
     while (script->left > 0 && sides->calls < MOST_CALLS) {

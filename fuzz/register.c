@@ -82,12 +82,12 @@ static void take_out(struct plain_register *rows, size_t at)
         rows->rows[i] = rows->rows[i + 1];
 }
 
-unsigned register_open(struct plain_register *rows, uint32_t group, uint32_t media_source, uint32_t rate)
+unsigned register_open(struct plain_register *rows, uint32_t group, uint32_t media, uint32_t rate)
 {
     if (group == 0 || group == UINT32_MAX || rate < 1 || rate > 192000)
         return 12;
     rows->group = group;
-    rows->media_source = media_source;
+    rows->media = media;
     rows->rate = rate;
     rows->count = 0;
     return 0;
@@ -98,7 +98,7 @@ unsigned register_report(struct plain_register *rows, const struct row *row, str
     const struct told *report = &row->report;
     const struct row *before = register_row(rows, row->source);
 
-    if (report->group != rows->group || report->media_source != rows->media_source)
+    if (report->group != rows->group || report->media != rows->media)
         return 13;
     if (before && !equal(&before->origin, &row->origin))
         return 14;
@@ -175,7 +175,7 @@ struct choice register_choose(const struct plain_register *rows, struct clocks n
     choice.number = 0;
     choice.source = chosen->source;
     choice.group = chosen->report.group;
-    choice.media_source = chosen->report.media_source;
+    choice.media = chosen->report.media;
     choice.received = chosen->report.received;
     choice.rtp = chosen->report.rtp;
     choice.presented = by_arrival ? 0 : (uint64_t)presentation(&chosen->report);

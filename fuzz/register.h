@@ -19,7 +19,7 @@ struct from {
 struct told {
     uint64_t received;
     uint32_t group;
-    uint32_t media_source;
+    uint32_t media;
     uint32_t rtp;
     uint32_t presented;
     uint8_t payload_type;
@@ -35,7 +35,7 @@ struct row {
 /* The rows stand in the order in which they were made. */
 struct plain_register {
     uint32_t group;
-    uint32_t media_source;
+    uint32_t media;
     uint32_t rate;
     size_t count;
     struct row rows[MOST_ROWS];
@@ -52,7 +52,7 @@ struct choice {
     unsigned number;
     uint32_t source;
     uint32_t group;
-    uint32_t media_source;
+    uint32_t media;
     uint64_t received;
     uint32_t rtp;
     uint64_t presented;
@@ -63,7 +63,7 @@ struct choice {
 };
 
 /* Each answers the refusal's number, or 0. */
-unsigned register_open(struct plain_register *rows, uint32_t group, uint32_t media_source, uint32_t rate);
+unsigned register_open(struct plain_register *rows, uint32_t group, uint32_t media, uint32_t rate);
 unsigned register_report(struct plain_register *rows, const struct row *row, struct clocks now);
 unsigned register_farewell(struct plain_register *rows, uint32_t source, const struct from *origin);
 void register_sweep(struct plain_register *rows, struct clocks now);

@@ -22,42 +22,42 @@
 extern "C" {
 #endif
 
-/* ---- Refusals -----------------------------------------------------------
+/* ---- Answers ------------------------------------------------------------
  *
- * Each reader and writer answers a refusal: its number, and the byte of the
+ * Each reader and writer answers the number of a refusal, and the byte of the
  * datagram at which it was met. Number 0 with place 0 says that the call was not
  * refused. After any other number, the memory that was lent to the call is as
  * before. The calls of the member table answer a number alone, 0 or 12 to 20;
  * that for a whole datagram answers number and place, 0, 1 to 7 or 10.
  */
-struct prunepocket_refusal {
+struct prunepocket_answer {
     uint64_t number;
     uint64_t place;
 };
 
 #define PRUNEPOCKET_ACCEPTED 0 /* no refusal */
 /* Numbers 1 to 7 are of the whole datagram: no item is taken from it. */
-#define PRUNEPOCKET_BAD_LENGTH 1      /* datagram length is 0, not a multiple of 4, or over 2,048; place 0 */
-#define PRUNEPOCKET_BAD_PACKET 2      /* version is not 2, or the packet runs past the end; the packet's place */
-#define PRUNEPOCKET_BAD_PADDING 3     /* bad padding; the packet's place */
-#define PRUNEPOCKET_BAD_FIRST 4       /* first packet is neither 200 nor 201; place 0 */
-#define PRUNEPOCKET_SHORT_CONTENT 5   /* content too short for its type; for 211, not exactly 36 bytes; the packet's place */
-#define PRUNEPOCKET_BLOCK_PAST_END 6  /* an XR block runs past the content; the block's place */
-#define PRUNEPOCKET_BLOCK_LENGTH 7    /* block type 12 with block length other than 7; the block's place */
+#define PRUNEPOCKET_BAD_LENGTH 1       /* datagram length is 0, not a multiple of 4, or over 2,048; place 0 */
+#define PRUNEPOCKET_BAD_PACKET 2       /* version is not 2, or the packet runs past the end; the packet's place */
+#define PRUNEPOCKET_BAD_PADDING 3      /* bad padding; the packet's place */
+#define PRUNEPOCKET_BAD_FIRST 4        /* first packet is neither 200 nor 201; place 0 */
+#define PRUNEPOCKET_SHORT_CONTENT 5    /* content too short for its type, or for 211 not 36 bytes; the packet's place */
+#define PRUNEPOCKET_BLOCK_PAST_END 6   /* an XR block runs past the content; the block's place */
+#define PRUNEPOCKET_BAD_BLOCK_LENGTH 7 /* block type 12 with block length other than 7; the block's place */
 /* There is no number 8. */
-#define PRUNEPOCKET_NO_SUCH_ITEM 9    /* item index not below the item count, or a field that the item does not have; place 0 */
-#define PRUNEPOCKET_SHORT_BUFFER 10   /* lent array or buffer too short; place 0 */
-#define PRUNEPOCKET_OUT_OF_RANGE 11   /* a field to be written is out of range; place 0 */
+#define PRUNEPOCKET_NO_SUCH_ITEM 9  /* item index not below the item count, or the item has no such field; place 0 */
+#define PRUNEPOCKET_SHORT_BUFFER 10 /* lent array or buffer too short; place 0 */
+#define PRUNEPOCKET_OUT_OF_RANGE 11 /* a field to be written is out of range; place 0 */
 /* Numbers 12 to 20 are of the member table, and have no place. */
-#define PRUNEPOCKET_BAD_OPENING 12     /* group is 0 or 4294967295, or the rate is outside of 1 to 192,000: there is no table */
+#define PRUNEPOCKET_BAD_OPENING 12     /* group is 0 or 4294967295, or rate is outside of 1 to 192,000: no table */
 #define PRUNEPOCKET_OTHER_STREAM 13    /* report of another group or media source than the table's */
 #define PRUNEPOCKET_OTHER_ORIGIN 14    /* source number is held by another origin: a twin */
 #define PRUNEPOCKET_RECEIVED_FAR 15    /* received time is not within 30 s at or before the sender's reading */
 #define PRUNEPOCKET_RTP_AGED 16        /* RTP age is above 60 seconds of the media clock */
-#define PRUNEPOCKET_BADLY_PRESENTED 17 /* presentation delay is over 30 s, or the expanded presentation is 0; where P is 1 alone */
+#define PRUNEPOCKET_BADLY_PRESENTED 17 /* P is 1, and presentation delay over 30 s or expanded presentation 0 */
 #define PRUNEPOCKET_NO_ROOM 18         /* report of a new member, and all 64 places are held */
 #define PRUNEPOCKET_NO_MEMBER 19       /* farewell from a source number that is not held */
-#define PRUNEPOCKET_NONE_FRESH 20      /* no fresh member to follow: there is no target */
+#define PRUNEPOCKET_NONE_COUNTED 20    /* no member is counted, since none is fresh: there is no target */
 
 /* ---- Items --------------------------------------------------------------
  *
@@ -66,16 +66,16 @@ struct prunepocket_refusal {
  * stand in datagram order. A field is known by its number, which is also its
  * column in a row of prunepocket_read_items.
  */
-#define PRUNEPOCKET_FIELD_KIND 0          /* every item: PRUNEPOCKET_REPORT, _SETTINGS or _FAREWELL */
-#define PRUNEPOCKET_FIELD_PLACE 1         /* every item: the byte at which its block, packet or source starts */
-#define PRUNEPOCKET_FIELD_SOURCE 2        /* every item: the XR sender's, the settings sender's or the leaving SSRC */
-#define PRUNEPOCKET_FIELD_GROUP 3         /* report, settings: media stream correlation identifier (the group) */
-#define PRUNEPOCKET_FIELD_MEDIA_SOURCE 4  /* report, settings: SSRC of the media source */
-#define PRUNEPOCKET_FIELD_RECEIVED 5      /* report, settings: packet received NTP timestamp, 64 bits */
-#define PRUNEPOCKET_FIELD_RTP 6           /* report, settings: packet received RTP timestamp, 32 bits */
-#define PRUNEPOCKET_FIELD_PRESENTED 7     /* report: packet presented NTP timestamp, 32 bits, 0 where P is 0; settings: 64 bits, 0 if empty */
-#define PRUNEPOCKET_FIELD_PAYLOAD_TYPE 8  /* report: payload type, 7 bits */
-#define PRUNEPOCKET_FIELD_P 9             /* report: 1 where a presented time is given, else 0 */
+#define PRUNEPOCKET_FIELD_KIND 0         /* every item: PRUNEPOCKET_REPORT, _SETTINGS or _FAREWELL */
+#define PRUNEPOCKET_FIELD_PLACE 1        /* every item: the byte at which its block, packet or source starts */
+#define PRUNEPOCKET_FIELD_SOURCE 2       /* every item: the XR sender's, the settings sender's or the leaving SSRC */
+#define PRUNEPOCKET_FIELD_GROUP 3        /* report, settings: media stream correlation identifier (the group) */
+#define PRUNEPOCKET_FIELD_MEDIA 4        /* report, settings: SSRC of the media source */
+#define PRUNEPOCKET_FIELD_RECEIVED 5     /* report, settings: packet received NTP timestamp, 64 bits */
+#define PRUNEPOCKET_FIELD_RTP 6          /* report, settings: packet received RTP timestamp, 32 bits */
+#define PRUNEPOCKET_FIELD_PRESENTED 7    /* report: presented NTP time, 32 bits, P 0: 0; settings: 64 bits, empty: 0 */
+#define PRUNEPOCKET_FIELD_PAYLOAD_TYPE 8 /* report: payload type, 7 bits */
+#define PRUNEPOCKET_FIELD_P 9            /* report: 1 where a presented time is given, else 0 */
 
 #define PRUNEPOCKET_REPORT 1   /* has fields 0 to 9 */
 #define PRUNEPOCKET_SETTINGS 2 /* has fields 0 to 7 */
@@ -87,17 +87,17 @@ struct prunepocket_refusal {
  * Puts how many items the datagram has into *count.
  * Refusals: 1 to 7.
  */
-struct prunepocket_refusal prunepocket_count_items(const uint8_t *datagram, size_t length,
-                                                   uint64_t *count);
+struct prunepocket_answer prunepocket_count_items(const uint8_t *datagram, size_t length,
+                                                  uint64_t *count);
 
 /*
  * Puts one field of the item at an index (from 0) into *value.
  * Refusals: 1 to 7 of the datagram, at any index; then 9, with place 0, where
  * the index is not below the item count or the item has no such field.
  */
-struct prunepocket_refusal prunepocket_item_field(const uint8_t *datagram, size_t length,
-                                                  uint64_t index, uint64_t field,
-                                                  uint64_t *value);
+struct prunepocket_answer prunepocket_item_field(const uint8_t *datagram, size_t length,
+                                                 uint64_t index, uint64_t field,
+                                                 uint64_t *value);
 
 /*
  * Puts every item into rows, PRUNEPOCKET_ROW numbers an item, and how many
@@ -106,9 +106,9 @@ struct prunepocket_refusal prunepocket_item_field(const uint8_t *datagram, size_
  * Refusals: 1 to 7 of the datagram; then 10, with place 0, where rows_length
  * is below PRUNEPOCKET_ROW times the item count.
  */
-struct prunepocket_refusal prunepocket_read_items(const uint8_t *datagram, size_t length,
-                                                  uint64_t *rows, size_t rows_length,
-                                                  uint64_t *count);
+struct prunepocket_answer prunepocket_read_items(const uint8_t *datagram, size_t length,
+                                                 uint64_t *rows, size_t rows_length,
+                                                 uint64_t *count);
 
 /* ---- Messages -----------------------------------------------------------
  *
@@ -127,23 +127,23 @@ struct prunepocket_refusal prunepocket_read_items(const uint8_t *datagram, size_
  * p is 0 and presented is not, or group is 4294967295; then 10 where length is
  * below 40.
  */
-struct prunepocket_refusal prunepocket_write_report(uint32_t sender, uint32_t payload_type,
-                                                    uint32_t p, uint32_t group,
-                                                    uint32_t media_source, uint64_t received,
-                                                    uint32_t rtp, uint32_t presented,
-                                                    uint8_t *buffer, size_t length,
-                                                    uint64_t *written);
+struct prunepocket_answer prunepocket_write_report(uint32_t sender, uint32_t payload_type,
+                                                   uint32_t p, uint32_t group,
+                                                   uint32_t media, uint64_t received,
+                                                   uint32_t rtp, uint32_t presented,
+                                                   uint8_t *buffer, size_t length,
+                                                   uint64_t *written);
 
 /*
  * Writes an IDMS settings packet of 36 bytes. Presented 0 means empty.
  * Refusals, in this order: 11 where group is 4294967295; then 10 where length
  * is below 36.
  */
-struct prunepocket_refusal prunepocket_write_settings(uint32_t sender, uint32_t group,
-                                                      uint32_t media_source, uint64_t received,
-                                                      uint32_t rtp, uint64_t presented,
-                                                      uint8_t *buffer, size_t length,
-                                                      uint64_t *written);
+struct prunepocket_answer prunepocket_write_settings(uint32_t sender, uint32_t group,
+                                                     uint32_t media, uint64_t received,
+                                                     uint32_t rtp, uint64_t presented,
+                                                     uint8_t *buffer, size_t length,
+                                                     uint64_t *written);
 
 /* ---- Member table -------------------------------------------------------
  *
@@ -189,7 +189,7 @@ struct prunepocket_refusal prunepocket_write_settings(uint32_t sender, uint32_t 
  * alters the member. Two units behind one address and port cannot be told apart.
  */
 struct prunepocket_origin {
-    uint8_t address[16]; /* The IPv6 address in network order; an IPv4 address is carried as its IPv4-mapped sixteen bytes, ::ffff:a.b.c.d. */
+    uint8_t address[16]; /* The IPv6 address in network order; an IPv4 address as the IPv4-mapped ::ffff:a.b.c.d. */
     uint16_t port;       /* The UDP port, in the host's byte order. */
 };
 
@@ -198,13 +198,13 @@ struct prunepocket_origin {
  * them: it is the source of the record.
  */
 struct prunepocket_report_fields {
-    uint64_t received;     /* The packet received NTP timestamp, in units of 2^-32 s. */
-    uint32_t group;        /* The media stream correlation identifier, which is the group. */
-    uint32_t media_source; /* The SSRC of the media source. */
-    uint32_t rtp;          /* The packet received RTP timestamp. */
-    uint32_t presented;    /* The packet presented NTP timestamp, in units of 2^-16 s; where P is 0 it is not looked at. */
-    uint8_t payload_type;  /* The payload type, which is kept and not looked at. */
-    uint8_t p;             /* P is 0 or 1: any value but 0 counts as P 1, and is kept as it was given. */
+    uint64_t received;    /* The packet received NTP timestamp, in units of 2^-32 s. */
+    uint32_t group;       /* The media stream correlation identifier, which is the group. */
+    uint32_t media;       /* The SSRC of the media source. */
+    uint32_t rtp;         /* The packet received RTP timestamp. */
+    uint32_t presented;   /* The packet presented NTP timestamp, in units of 2^-16 s; not looked at where P is 0. */
+    uint8_t payload_type; /* The payload type, which is kept and not looked at. */
+    uint8_t p;            /* P is 0 or 1: any value but 0 counts as P 1, and is kept as it was given. */
 };
 
 /* A report under its source number and its origin: what the table is told, and what it holds. */
@@ -222,23 +222,23 @@ struct prunepocket_reading {
 
 /* The member to follow, with the settings from its own report. */
 struct prunepocket_target {
-    uint32_t source;       /* The member's source number. */
-    uint32_t group;        /* The group of its report. */
-    uint32_t media_source; /* The media source of its report. */
-    uint64_t received;     /* The received time of its report. */
-    uint32_t rtp;          /* The RTP time of its report. */
-    uint64_t presented;    /* The presented time of its report, expanded to a full time, or 0 in arrival mode. */
-    uint32_t counted;      /* How many members were counted, the chosen one among them. */
+    uint32_t source;    /* The member's source number. */
+    uint32_t group;     /* The group of its report. */
+    uint32_t media;     /* The media source of its report. */
+    uint64_t received;  /* The received time of its report. */
+    uint32_t rtp;       /* The RTP time of its report. */
+    uint64_t presented; /* The presented time of its report, expanded to a full time, or 0 in arrival mode. */
+    uint32_t counted;   /* How many members were counted, the chosen one among them. */
 };
 
 /*
  * A member table of 3,608 bytes. Its fields are the table's own: C passes the
- * struct from call to call and does not look inside. prunepocket_members and
- * prunepocket_member_at say what it holds.
+ * struct from call to call and does not look inside. prunepocket_count_members
+ * and prunepocket_member_at say what it holds.
  */
 struct prunepocket_table {
     uint32_t group;                                        /* The group that it was opened for. */
-    uint32_t media_source;                                 /* The media source that it was opened for. */
+    uint32_t media;                                        /* The media source that it was opened for. */
     uint32_t rate;                                         /* The clock rate that it was opened for. */
     uint64_t held;                                         /* The places held, the first as the lowest bit. */
     struct prunepocket_record members[PRUNEPOCKET_PLACES]; /* The member at each place held; at others, anything. */
@@ -251,7 +251,7 @@ struct prunepocket_answered {
 };
 
 /* What taking a whole datagram answers. */
-struct prunepocket_fed {
+struct prunepocket_datagram_answered {
     uint64_t number;                /* The refusal's number, or 0 that there is none. */
     uint64_t place;                 /* The byte of the datagram at which the refusal was met, or 0. */
     uint64_t count;                 /* How many numbers were put into the list, one for each call; 0 after a refusal. */
@@ -259,7 +259,7 @@ struct prunepocket_fed {
 };
 
 /* What stands at a place. */
-struct prunepocket_seat {
+struct prunepocket_place {
     uint32_t held;                    /* 1 where a member stands there, else 0. */
     struct prunepocket_record member; /* The member with its last accepted report, or zeros where there is none. */
 };
@@ -277,7 +277,7 @@ struct prunepocket_followed {
  * Refusals: 12 where group is 0 or 4294967295, or rate is outside of 1 to
  * 192,000; what is handed back then stands for no table.
  */
-struct prunepocket_answered prunepocket_open(uint32_t group, uint32_t media_source, uint32_t rate);
+struct prunepocket_answered prunepocket_open(uint32_t group, uint32_t media, uint32_t rate);
 
 /*
  * Takes a report that arrived at the sender's reading. Accepted, it stands in
@@ -321,23 +321,23 @@ struct prunepocket_answered prunepocket_sweep(struct prunepocket_table table,
  * is below the number of reports and farewells. Table and list are then as
  * before, and no call was made.
  */
-struct prunepocket_fed prunepocket_take_datagram(struct prunepocket_table table,
-                                                 const uint8_t *datagram, size_t length,
-                                                 struct prunepocket_origin origin,
-                                                 struct prunepocket_reading reading,
-                                                 uint64_t *answers, size_t answers_length);
+struct prunepocket_datagram_answered prunepocket_take_datagram(struct prunepocket_table table,
+                                                               const uint8_t *datagram, size_t length,
+                                                               struct prunepocket_origin origin,
+                                                               struct prunepocket_reading reading,
+                                                               uint64_t *answers, size_t answers_length);
 
 /*
  * Answers how many members there are, fresh or not.
  * Refusals: none.
  */
-uint32_t prunepocket_members(struct prunepocket_table table);
+uint32_t prunepocket_count_members(struct prunepocket_table table);
 
 /*
  * Answers who stands at a place, from 0 to 63. No member stands at any other.
  * Refusals: none, held is 0 where no member stands there.
  */
-struct prunepocket_seat prunepocket_member_at(struct prunepocket_table table, size_t place);
+struct prunepocket_place prunepocket_member_at(struct prunepocket_table table, size_t place);
 
 /*
  * Chooses the member to follow at the reading, and hands the table back as it

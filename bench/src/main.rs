@@ -2,7 +2,6 @@
 //! have to agree on the inputs before anything is timed.
 
 mod archive;
-mod archive_table;
 mod inputs;
 mod messages;
 mod peer;
@@ -11,7 +10,8 @@ mod peer_table;
 mod tables;
 
 use inputs::{Input, Random};
-use peer::{Refusal, ROW};
+use peer::ROW;
+use prunepocket_sys::{Refusal, ReportMessage, SettingsMessage};
 use std::hint::black_box;
 use std::time::{Duration, Instant};
 
@@ -38,12 +38,12 @@ struct Writers<M> {
     peers: fn(&M, &mut [u8]) -> Result<u64, u64>,
 }
 
-const REPORT_WRITERS: Writers<messages::Report> = Writers {
+const REPORT_WRITERS: Writers<ReportMessage> = Writers {
     ours: archive::write_report,
     peers: peer_encoder::write_report,
 };
 
-const SETTINGS_WRITERS: Writers<messages::Settings> = Writers {
+const SETTINGS_WRITERS: Writers<SettingsMessage> = Writers {
     ours: archive::write_settings,
     peers: peer_encoder::write_settings,
 };

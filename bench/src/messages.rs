@@ -1,33 +1,14 @@
 //! The messages that are timed.
 
 use crate::inputs::Random;
+use prunepocket_sys::{ReportMessage, SettingsMessage};
 
 const MESSAGES: usize = 256;
 
-pub struct Report {
-    pub sender: u32,
-    pub payload_type: u32,
-    pub p: u32,
-    pub group: u32,
-    pub media_source: u32,
-    pub received: u64,
-    pub rtp: u32,
-    pub presented: u32,
-}
-
-pub struct Settings {
-    pub sender: u32,
-    pub group: u32,
-    pub media_source: u32,
-    pub received: u64,
-    pub rtp: u32,
-    pub presented: u64,
-}
-
 /// Reports with all fields in range.
-pub fn reports() -> Vec<Report> {
+pub fn reports() -> Vec<ReportMessage> {
     let mut random = Random(0x7272);
-    let in_range = |_| Report {
+    let in_range = |_| ReportMessage {
         payload_type: random.below(128) as u32,
         p: 1,
         group: random.below(1000) as u32,
@@ -36,10 +17,10 @@ pub fn reports() -> Vec<Report> {
     (0..MESSAGES).map(in_range).collect()
 }
 
-/// Settings with all fields in range.
-pub fn settings() -> Vec<Settings> {
+/// SettingsMessage with all fields in range.
+pub fn settings() -> Vec<SettingsMessage> {
     let mut random = Random(0x7272);
-    let in_range = |_| Settings {
+    let in_range = |_| SettingsMessage {
         group: random.below(1000) as u32,
         ..settings_packet(&mut random)
     };
@@ -47,14 +28,14 @@ pub fn settings() -> Vec<Settings> {
 }
 
 /// Any report, now and then with fields out of range.
-pub fn report(random: &mut Random) -> Report {
+pub fn report(random: &mut Random) -> ReportMessage {
     let p = random.below(3) as u32;
-    Report {
+    ReportMessage {
         sender: random.number() as u32,
         payload_type: random.below(160) as u32,
         p,
         group: group(random),
-        media_source: random.number() as u32,
+        media: random.number() as u32,
         received: random.number(),
         rtp: random.number() as u32,
         presented: match (p, random.below(8)) {
@@ -65,11 +46,11 @@ pub fn report(random: &mut Random) -> Report {
 }
 
 /// Any settings, now and then with a group out of range.
-pub fn settings_packet(random: &mut Random) -> Settings {
-    Settings {
+pub fn settings_packet(random: &mut Random) -> SettingsMessage {
+    SettingsMessage {
         sender: random.number() as u32,
         group: group(random),
-        media_source: random.number() as u32,
+        media: random.number() as u32,
         received: random.number(),
         rtp: random.number() as u32,
         presented: random.number(),

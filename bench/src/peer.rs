@@ -3,6 +3,8 @@
 //! nothing. Written for speed: no allocation, whole words, and a second walk
 //! that repeats no check of the first.
 
+use prunepocket_sys::Refusal;
+
 /// Columns of a row: kind, place, source, group, media source, received, RTP,
 /// presented, payload type, P.
 pub const ROW: usize = 10;
@@ -19,12 +21,6 @@ const P: u32 = 0x2000_0000;
 
 type Word = [u8; 4];
 type Row = [u64; ROW];
-
-#[derive(Clone, Copy, Debug, PartialEq, Eq)]
-pub struct Refusal {
-    pub number: u64,
-    pub place: u64,
-}
 
 /// A refusal at a word.
 #[inline(always)]

@@ -2,7 +2,7 @@
 //! checks first, writes into a lent slice and answers how many bytes it wrote;
 //! on a refusal it writes nothing and answers the number.
 
-use crate::messages::{Report, Settings};
+use prunepocket_sys::{ReportMessage, SettingsMessage};
 
 /// Written for speed, and not inlined, since the archive is not. It takes the
 /// archive's numbers in the archive's order, so that both sides pass the same.
@@ -13,7 +13,7 @@ fn report(
     payload_type: u32,
     p: u32,
     group: u32,
-    media_source: u32,
+    media: u32,
     received: u64,
     rtp: u32,
     presented: u32,
@@ -31,7 +31,7 @@ fn report(
         0x0C10_0007 | p << 16,
         payload_type << 25,
         group,
-        media_source,
+        media,
         (received >> 32) as u32,
         received as u32,
         rtp,
@@ -46,7 +46,7 @@ fn report(
 fn settings(
     sender: u32,
     group: u32,
-    media_source: u32,
+    media: u32,
     received: u64,
     rtp: u32,
     presented: u64,
@@ -61,7 +61,7 @@ fn settings(
     let words = [
         0x80D3_0008,
         sender,
-        media_source,
+        media,
         group,
         (received >> 32) as u32,
         received as u32,
@@ -81,13 +81,13 @@ fn put<const WORDS: usize>(message: &mut [u8], words: [u32; WORDS]) {
 }
 
 #[inline(always)]
-pub fn write_report(fields: &Report, buffer: &mut [u8]) -> Result<u64, u64> {
+pub fn write_report(fields: &ReportMessage, buffer: &mut [u8]) -> Result<u64, u64> {
     report(
         fields.sender,
         fields.payload_type,
         fields.p,
         fields.group,
-        fields.media_source,
+        fields.media,
         fields.received,
         fields.rtp,
         fields.presented,
@@ -96,11 +96,11 @@ pub fn write_report(fields: &Report, buffer: &mut [u8]) -> Result<u64, u64> {
 }
 
 #[inline(always)]
-pub fn write_settings(fields: &Settings, buffer: &mut [u8]) -> Result<u64, u64> {
+pub fn write_settings(fields: &SettingsMessage, buffer: &mut [u8]) -> Result<u64, u64> {
     settings(
         fields.sender,
         fields.group,
-        fields.media_source,
+        fields.media,
         fields.received,
         fields.rtp,
         fields.presented,

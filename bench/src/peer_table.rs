@@ -1,6 +1,8 @@
 //! A member table for one synchronization group, after document 01, that is
 //! changed in place. It keeps 64 places and a word of places held.
 
+use prunepocket_sys::{Origin, Reading, Target};
+
 /// Places in a table.
 pub const PLACES: usize = 64;
 
@@ -9,13 +11,6 @@ const SECOND: u64 = 1 << 32;
 
 /// The greatest NTP age (15) and the greatest presentation delay (17).
 const LIMIT: u64 = 30 * SECOND;
-
-/// An address of sixteen bytes and a port.
-#[derive(Clone, Copy, PartialEq, Eq, Debug)]
-pub struct Origin {
-    pub address: [u8; 16],
-    pub port: u16,
-}
 
 /// The fields of a report item; `presented` is the short time.
 #[derive(Clone, Copy, PartialEq, Eq, Debug)]
@@ -36,25 +31,6 @@ pub struct Record {
     pub source: u32,
     pub origin: Origin,
     pub report: Report,
-}
-
-/// The sender's reading: NTP time N and RTP time R.
-#[derive(Clone, Copy, PartialEq, Eq, Debug)]
-pub struct Reading {
-    pub ntp: u64,
-    pub rtp: u32,
-}
-
-/// The answer of choosing; `presented` is expanded, or 0 in arrival mode.
-#[derive(Clone, Copy, PartialEq, Eq, Debug)]
-pub struct Target {
-    pub source: u32,
-    pub group: u32,
-    pub media: u32,
-    pub received: u64,
-    pub rtp: u32,
-    pub presented: u64,
-    pub counted: u32,
 }
 
 /// What stands in a place before its first member.
@@ -123,7 +99,7 @@ impl Report {
     }
 
     /// Refusal 15: received is not within 30 s at or before the reading.
-    fn check_received(&self, reading: &Reading) -> Result<(), u32> {
+    fn check_received(&self, reading: &Reading) -> Result<(), u64> {
         if self.ntp_age(reading) > LIMIT {
             Err(15)
         } else {
@@ -133,7 +109,7 @@ impl Report {
 
     /// Refusal 16: the RTP age is above 60 s of media clock.
     /// The product fits, as an opened table's rate is at most 192,000.
-    fn check_rtp(&self, reading: &Reading, rate: u32) -> Result<(), u32> {
+    fn check_rtp(&self, reading: &Reading, rate: u32) -> Result<(), u64> {
         if self.rtp_age(reading) > 60 * rate {
             Err(16)
         } else {
@@ -142,7 +118,7 @@ impl Report {
     }
 
     /// Refusal 17, only where P is 1: a delay over 30 s, or an expanded presentation of 0.
-    fn check_presentation(&self) -> Result<(), u32> {
+    fn check_presentation(&self) -> Result<(), u64> {
         if self.p && (self.delay() > LIMIT || self.expanded() == 0) {
             Err(17)
         } else {
@@ -179,7 +155,7 @@ pub struct Table {
 
 impl Table {
     /// Opens a table without members; 12 for group 0 or 4,294,967,295 or a rate out of range.
-    pub fn open(group: u32, media: u32, rate: u32) -> Result<Table, u32> {
+    pub fn open(group: u32, media: u32, rate: u32) -> Result<Table, u64> {
         if group == 0 || group == u32::MAX || !(1..=192_000).contains(&rate) {
             return Err(12);
         }
@@ -193,7 +169,7 @@ impl Table {
     }
 
     /// Files a report under its source number, or refuses it with the first of 13 to 18.
-    pub fn report(&mut self, record: &Record, reading: &Reading) -> Result<(), u32> {
+    pub fn report(&mut self, record: &Record, reading: &Reading) -> Result<(), u64> {
         let report = &record.report;
         self.check_subject(report)?;
         let own = self.held_by(record.source, &record.origin)?;
@@ -210,8 +186,8 @@ impl Table {
     }
 
     /// Removes the member if its origin holds the number; otherwise 19 or 14.
-    pub fn farewell(&mut self, source: u32, origin: &Origin) -> Result<(), u32> {
-        let place = self.held_by(source, origin)?.ok_or(19u32)?;
+    pub fn farewell(&mut self, source: u32, origin: &Origin) -> Result<(), u64> {
+        let place = self.held_by(source, origin)?.ok_or(19u64)?;
         self.held &= !(1 << place);
         Ok(())
     }
@@ -222,12 +198,12 @@ impl Table {
     }
 
     /// Chooses the greatest lateness and, among equals, the lowest source; 20 if none is fresh.
-    pub fn choose(&self, reading: &Reading) -> Result<Target, u32> {
+    pub fn choose(&self, reading: &Reading) -> Result<Target, u64> {
         let fresh = self.fresh(reading);
         let presenting = self.presenting(fresh);
         let arrival = presenting == 0;
         let counted = if arrival { fresh } else { presenting };
-        let chosen = self.latest(counted, arrival, reading).ok_or(20u32)?;
+        let chosen = self.latest(counted, arrival, reading).ok_or(20u64)?;
         let report = &chosen.report;
         Ok(Target {
             source: chosen.source,
@@ -255,7 +231,7 @@ impl Table {
     }
 
     /// Refusal 13: a report of another group or media source.
-    fn check_subject(&self, report: &Report) -> Result<(), u32> {
+    fn check_subject(&self, report: &Report) -> Result<(), u64> {
         if report.group == self.group && report.media == self.media {
             Ok(())
         } else {
@@ -264,7 +240,7 @@ impl Table {
     }
 
     /// The place that holds the number, if any; 14 where another origin holds it.
-    fn held_by(&self, source: u32, origin: &Origin) -> Result<Option<usize>, u32> {
+    fn held_by(&self, source: u32, origin: &Origin) -> Result<Option<usize>, u64> {
         match Ones(self.held).find(|&place| self.places[place].source == source) {
             Some(place) if self.places[place].origin != *origin => Err(14),
             own => Ok(own),
@@ -272,7 +248,7 @@ impl Table {
     }
 
     /// The lowest free place; 18 where all are held.
-    fn free_place(&self) -> Result<usize, u32> {
+    fn free_place(&self) -> Result<usize, u64> {
         let place = (!self.held).trailing_zeros() as usize;
         if place < PLACES {
             Ok(place)

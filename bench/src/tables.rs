@@ -1,14 +1,14 @@
 //! Times the calls of the member table beside the peer's, which changes its
 //! table in place.
 
-use crate::archive_table as ours;
 use crate::interleaved;
 use crate::peer_table as peer;
+use prunepocket_sys::{Origin, Reading, Record, Table};
 use std::hint::black_box;
 
 const SECOND: u64 = 1 << 32;
 
-const READING: peer::Reading = peer::Reading {
+const READING: Reading = Reading {
     ntp: 1000 * SECOND,
     rtp: 9_000_000,
 };
@@ -18,7 +18,7 @@ fn record(source: u32) -> peer::Record {
     address[15] = source as u8;
     peer::Record {
         source,
-        origin: peer::Origin {
+        origin: Origin {
             address,
             port: 5000,
         },
@@ -37,14 +37,14 @@ fn record(source: u32) -> peer::Record {
 
 /// Both tables with members 1 to `members`.
 struct Pair {
-    ours: ours::Table,
+    ours: Table,
     peers: peer::Table,
 }
 
 impl Pair {
     fn with(members: u32) -> Pair {
         let mut pair = Pair {
-            ours: unsafe { ours::prunepocket_open(42, 7, 90_000) }.table,
+            ours: Table::open(42, 7, 90_000).expect("it opens"),
             peers: peer::Table::open(42, 7, 90_000).expect("it opens"),
         };
         for source in 1..=members {
@@ -54,22 +54,23 @@ impl Pair {
     }
 
     /// Panics where the two differ.
-    fn report(&mut self, record: &peer::Record, reading: &peer::Reading) -> u64 {
-        let told = unsafe { ours::prunepocket_report(self.ours, record.into(), reading.into()) };
+    fn report(&mut self, record: &peer::Record, reading: &Reading) -> u64 {
+        let answered = self.ours.report(&record.into(), reading);
         let answer = self.peers.report(record, reading);
-        assert_eq!(told.number as u32, answer.err().unwrap_or(0));
-        self.ours = told.table;
+        assert_eq!(answered.number, answer.err().unwrap_or(0));
+        self.ours = answered.table;
         self.agree(reading);
-        told.number
+        answered.number
     }
 
-    fn agree(&self, reading: &peer::Reading) {
-        let followed = unsafe { ours::prunepocket_choose(self.ours, reading.into()) };
-        assert_eq!(followed.answer(), self.peers.choose(reading));
-        assert_eq!(self.ours.count(), self.peers.count());
+    fn agree(&self, reading: &Reading) {
+        let followed = self.ours.choose(reading);
+        assert_eq!(followed.choice(), self.peers.choose(reading));
+        assert_eq!(self.ours.count_members(), self.peers.count());
         for place in 0..64 {
+            let ours = self.ours.member_at(place);
             let peers = self.peers.member_at(place).map(|member| member.source);
-            assert_eq!(self.ours.source_at(place), peers);
+            assert_eq!((ours.held == 1).then_some(ours.member.source), peers);
         }
     }
 }
@@ -81,12 +82,11 @@ fn time_report(members: u32) -> (f64, f64) {
         mut peers,
     } = Pair::with(members);
     let known = record(members.max(1));
-    let told = ours::Record::from(&known);
-    let at = ours::Reading::from(&READING);
+    let told = Record::from(&known);
     interleaved(
         1,
         || {
-            let answer = unsafe { ours::prunepocket_report(ours, told, at) };
+            let answer = ours.report(&told, &READING);
             ours = answer.table;
             black_box(answer.number);
         },
@@ -104,11 +104,10 @@ fn time_refused_farewell(members: u32) -> (f64, f64) {
     } = Pair::with(members);
     let mut elsewhere = record(members).origin;
     elsewhere.port += 1;
-    let origin = ours::Origin::from(&elsewhere);
     interleaved(
         1,
         || {
-            let answer = unsafe { ours::prunepocket_farewell(ours, members, origin) };
+            let answer = ours.farewell(members, &elsewhere);
             ours = answer.table;
             black_box(answer.number);
         },
@@ -126,21 +125,19 @@ fn time_sweep(members: u32) -> (f64, f64) {
         mut ours,
         mut peers,
     } = Pair::with(members);
-    let at = ours::Reading::from(&READING);
     interleaved(
         1,
-        || ours = unsafe { ours::prunepocket_sweep(ours, at) }.table,
+        || ours = ours.sweep(&READING).table,
         || black_box(&mut peers).sweep(black_box(&READING)),
     )
 }
 
 fn time_choose(members: u32) -> (f64, f64) {
     let Pair { mut ours, peers } = Pair::with(members);
-    let at = ours::Reading::from(&READING);
     interleaved(
         1,
         || {
-            let followed = unsafe { ours::prunepocket_choose(ours, at) };
+            let followed = ours.choose(&READING);
             ours = followed.table;
             black_box(followed.number);
         },

@@ -1,22 +1,10 @@
 /*
  * Calls every function of the member table in prunepocket.h. Holds each struct of C to the bytes
- * that the archive writes, each answer to the papers' cases, and each table after a refusal to the
- * one before, field by field, padding aside. The table's own fields are looked at here alone: a
- * host does not.
+ * that the archive writes, answers to what document 01 says at the limits, and each table after a
+ * refusal to the one before, field by field, padding aside. The table's own fields are looked at
+ * here alone: a host does not. The papers' cases are in test_scenes.c.
  */
-#include "check.h"
-
-#include <string.h>
-
-typedef struct prunepocket_origin origin_t;
-typedef struct prunepocket_record record_t;
-typedef struct prunepocket_reading reading_t;
-typedef struct prunepocket_target target_t;
-typedef struct prunepocket_table table_t;
-typedef struct prunepocket_answered answered_t;
-typedef struct prunepocket_fed fed_t;
-typedef struct prunepocket_seat seat_t;
-typedef struct prunepocket_followed followed_t;
+#include "members.h"
 
 #define CASE(text) (line = __LINE__, name = (text))
 
@@ -28,8 +16,7 @@ typedef struct prunepocket_followed followed_t;
 #define MEDIA 7
 #define RATE 90000
 
-/* A full time of whole seconds, and the short time of as many. */
-#define SECONDS(n) ((uint64_t)(n) << 32)
+/* The short time of whole seconds. */
 #define SHORT_SECONDS(n) ((uint32_t)(n) << 16)
 
 /* N and R of the cases. */
@@ -41,12 +28,12 @@ static origin_t unit(uint8_t host)
     return (origin_t){{0, 0, 0, 0, 0, 0, 0, 0, 0, 0, 0xFF, 0xFF, 192, 0, 2, host}, 5005};
 }
 
-static record_t p1(void)
+static record_t record_10(void)
 {
     return (record_t){10, unit(10), {SECONDS(999), GROUP, MEDIA, 8910000, 0x03E78000, 33, 1}};
 }
 
-static record_t p2(void)
+static record_t record_20(void)
 {
     return (record_t){20, unit(20), {SECONDS(998), GROUP, MEDIA, 8820000, 0x03E6C000, 33, 1}};
 }
@@ -59,33 +46,13 @@ static record_t arrival(uint32_t source)
 
 /* ---- Equality, padding aside ----------------------------------------------------------------- */
 
-#define SAME(field) (memcmp(&a->field, &b->field, sizeof a->field) == 0)
-
-static int same_record(const record_t *a, const record_t *b)
-{
-    return SAME(source) && SAME(origin) && SAME(report.received) && SAME(report.group) &&
-           SAME(report.media_source) && SAME(report.rtp) && SAME(report.presented) &&
-           SAME(report.payload_type) && SAME(report.p);
-}
-
 static int same_table(const table_t *a, const table_t *b)
 {
     for (size_t i = 0; i < PRUNEPOCKET_PLACES; i++) {
         if (!same_record(&a->members[i], &b->members[i]))
             return 0;
     }
-    return SAME(group) && SAME(media_source) && SAME(rate) && SAME(held);
-}
-
-static int same_target(const target_t *a, const target_t *b)
-{
-    return SAME(source) && SAME(group) && SAME(media_source) && SAME(received) && SAME(rtp) &&
-           SAME(presented) && SAME(counted);
-}
-
-static void check_true(const char *what, int truth)
-{
-    check_equal(what, truth != 0, 1);
+    return SAME(group) && SAME(media) && SAME(rate) && SAME(held);
 }
 
 /* ---- One call -------------------------------------------------------------------------------- */
@@ -96,7 +63,7 @@ static table_t open_table(uint32_t group, uint32_t media, uint32_t rate)
     answered_t answered = prunepocket_open(group, media, rate);
 
     check_equal("open: number", answered.number, PRUNEPOCKET_ACCEPTED);
-    check_equal("open: members", prunepocket_members(answered.table), 0);
+    check_equal("open: members", prunepocket_count_members(answered.table), 0);
     return answered.table;
 }
 
@@ -121,13 +88,13 @@ static table_t report(table_t table, record_t record, reading_t reading, uint64_
 static table_t farewell(table_t table, uint32_t source, origin_t origin, uint64_t number)
 {
     answered_t answered = prunepocket_farewell(table, source, origin);
-    uint32_t before = prunepocket_members(table);
+    uint32_t before = prunepocket_count_members(table);
 
     check_equal("farewell: number", answered.number, number);
     if (number != PRUNEPOCKET_ACCEPTED)
         check_true("farewell: the table as before", same_table(&answered.table, &table));
     else
-        check_equal("farewell: members", prunepocket_members(answered.table), before - 1);
+        check_equal("farewell: members", prunepocket_count_members(answered.table), before - 1);
     return answered.table;
 }
 
@@ -137,26 +104,26 @@ static table_t sweep(table_t table, reading_t reading, uint32_t members)
     answered_t answered = prunepocket_sweep(table, reading);
 
     check_equal("sweep: number", answered.number, PRUNEPOCKET_ACCEPTED);
-    check_equal("sweep: members", prunepocket_members(answered.table), members);
+    check_equal("sweep: members", prunepocket_count_members(answered.table), members);
     return answered.table;
 }
 
 /* The member at a place stands on this record. */
 static void check_member(table_t table, size_t place, record_t record)
 {
-    seat_t seat = prunepocket_member_at(table, place);
+    place_t at = prunepocket_member_at(table, place);
 
-    check_equal("member_at: held", seat.held, 1);
-    check_true("member_at: member", same_record(&seat.member, &record));
+    check_equal("member_at: held", at.held, 1);
+    check_true("member_at: member", same_record(&at.member, &record));
 }
 
 static void check_vacant(table_t table, size_t place)
 {
     static const record_t zeros;
-    seat_t seat = prunepocket_member_at(table, place);
+    place_t at = prunepocket_member_at(table, place);
 
-    check_equal("member_at: not held", seat.held, 0);
-    check_true("member_at: zeros", same_record(&seat.member, &zeros));
+    check_equal("member_at: not held", at.held, 0);
+    check_true("member_at: zeros", same_record(&at.member, &zeros));
 }
 
 /* The target, and the table is as before. */
@@ -174,20 +141,9 @@ static void check_none_fresh(table_t table, reading_t reading)
     static const target_t zeros;
     followed_t followed = prunepocket_choose(table, reading);
 
-    check_equal("choose: number", followed.number, PRUNEPOCKET_NONE_FRESH);
+    check_equal("choose: number", followed.number, PRUNEPOCKET_NONE_COUNTED);
     check_true("choose: target of zeros", same_target(&followed.target, &zeros));
     check_true("choose: the table as before", same_table(&followed.table, &table));
-}
-
-static void check_target(target_t got, target_t expected)
-{
-    check_equal("target: source", got.source, expected.source);
-    check_equal("target: group", got.group, expected.group);
-    check_equal("target: media source", got.media_source, expected.media_source);
-    check_equal("target: received", got.received, expected.received);
-    check_equal("target: RTP", got.rtp, expected.rtp);
-    check_equal("target: presented", got.presented, expected.presented);
-    check_equal("target: counted", got.counted, expected.counted);
 }
 
 /* Who is chosen, and how many are counted. */
@@ -197,16 +153,6 @@ static void check_chosen(table_t table, reading_t reading, uint32_t source, uint
 
     check_equal("chosen", target.source, source);
     check_equal("counted", target.counted, counted);
-}
-
-/* The lateness of a target's three times, in units of 1/(rate * 2^32) s. */
-static int64_t lateness(target_t target, uint32_t rate, reading_t reading)
-{
-    uint64_t delay = target.presented == 0 ? 0 : target.presented - target.received;
-    uint64_t ntp_age = reading.ntp - target.received;
-    uint32_t rtp_age = reading.rtp - target.rtp;
-
-    return (int64_t)rate * ((int64_t)delay - (int64_t)ntp_age) + (int64_t)SECONDS(rtp_age);
 }
 
 static void check_lateness(target_t target, uint32_t rate, reading_t reading, int64_t expected)
@@ -233,7 +179,7 @@ static void test_small_layouts(void)
     SIZE(struct prunepocket_report_fields, 32);
     FIELD(struct prunepocket_report_fields, received, 0, 8);
     FIELD(struct prunepocket_report_fields, group, 8, 4);
-    FIELD(struct prunepocket_report_fields, media_source, 12, 4);
+    FIELD(struct prunepocket_report_fields, media, 12, 4);
     FIELD(struct prunepocket_report_fields, rtp, 16, 4);
     FIELD(struct prunepocket_report_fields, presented, 20, 4);
     FIELD(struct prunepocket_report_fields, payload_type, 24, 1);
@@ -257,7 +203,7 @@ static void test_large_layouts(void)
     SIZE(target_t, 48);
     FIELD(target_t, source, 0, 4);
     FIELD(target_t, group, 4, 4);
-    FIELD(target_t, media_source, 8, 4);
+    FIELD(target_t, media, 8, 4);
     FIELD(target_t, received, 16, 8);
     FIELD(target_t, rtp, 24, 4);
     FIELD(target_t, presented, 32, 8);
@@ -266,7 +212,7 @@ static void test_large_layouts(void)
     CASE("layout of a table");
     SIZE(table_t, 3608);
     FIELD(table_t, group, 0, 4);
-    FIELD(table_t, media_source, 4, 4);
+    FIELD(table_t, media, 4, 4);
     FIELD(table_t, rate, 8, 4);
     FIELD(table_t, held, 16, 8);
     FIELD(table_t, members, 24, 64 * 56);
@@ -278,14 +224,14 @@ static void test_answer_layouts(void)
     SIZE(answered_t, 3616);
     FIELD(answered_t, number, 0, 8);
     FIELD(answered_t, table, 8, 3608);
-    SIZE(fed_t, 3632);
-    FIELD(fed_t, number, 0, 8);
-    FIELD(fed_t, place, 8, 8);
-    FIELD(fed_t, count, 16, 8);
-    FIELD(fed_t, table, 24, 3608);
-    SIZE(seat_t, 64);
-    FIELD(seat_t, held, 0, 4);
-    FIELD(seat_t, member, 8, 56);
+    SIZE(datagram_answered_t, 3632);
+    FIELD(datagram_answered_t, number, 0, 8);
+    FIELD(datagram_answered_t, place, 8, 8);
+    FIELD(datagram_answered_t, count, 16, 8);
+    FIELD(datagram_answered_t, table, 24, 3608);
+    SIZE(place_t, 64);
+    FIELD(place_t, held, 0, 4);
+    FIELD(place_t, member, 8, 56);
     SIZE(followed_t, 3664);
     FIELD(followed_t, number, 0, 8);
     FIELD(followed_t, target, 8, 48);
@@ -382,7 +328,7 @@ static void test_opened_bytes(void)
         check_vacant(answered->table, i);
 
     CASE("bytes of a refusal");
-    *answered = prunepocket_report(answered->table, p1(), now);
+    *answered = prunepocket_report(answered->table, record_10(), now);
     check_equal("number", number_at(answered, 0, 8), 13);
     CHECK_PARTS("table", answered, 8, opened_parts);
     free(answered);
@@ -391,7 +337,7 @@ static void test_opened_bytes(void)
 static void test_filed_bytes(void)
 {
     answered_t *answered = allocate(sizeof *answered);
-    seat_t *seat = allocate(sizeof *seat);
+    place_t *place = allocate(sizeof *place);
 
     CASE("bytes of a table with a record");
     *answered = prunepocket_report(open_table(0x40414243, 0x50515253, 0x15F90), distinct,
@@ -400,11 +346,11 @@ static void test_filed_bytes(void)
     CHECK_PARTS("table", answered, 8, filed_parts);
     CHECK_PARTS("record in the table", answered, 8 + 24, record_parts);
 
-    CASE("bytes of a seat");
-    *seat = prunepocket_member_at(answered->table, 0);
-    check_equal("held", number_at(seat, 0, 4), 1);
-    CHECK_PARTS("member", seat, 8, record_parts);
-    free(seat);
+    CASE("bytes of a place");
+    *place = prunepocket_member_at(answered->table, 0);
+    check_equal("held", number_at(place, 0, 4), 1);
+    CHECK_PARTS("member", place, 8, record_parts);
+    free(place);
     free(answered);
 }
 
@@ -424,9 +370,9 @@ static void test_followed_bytes(void)
     free(followed);
 }
 
-/* ---- The papers' cases ----------------------------------------------------------------------- */
+/* ---- Twins ----------------------------------------------------------------------------------- */
 
-/* The table of the cases with one report, accepted. */
+/* The table with one report, accepted. */
 static table_t with_one(record_t record)
 {
     return report(opened(), record, now, PRUNEPOCKET_ACCEPTED);
@@ -437,171 +383,33 @@ static table_t with_two(record_t first, record_t second)
     return report(with_one(first), second, now, PRUNEPOCKET_ACCEPTED);
 }
 
-/* The settings packet of a target, from sender 1. */
-static void check_settings(target_t target, const uint32_t *words)
-{
-    uint8_t buffer[PRUNEPOCKET_SETTINGS_BYTES];
-    uint64_t written = 0;
-    char text[80];
-
-    check_answer("settings",
-                 prunepocket_write_settings(1, target.group, target.media_source, target.received,
-                                            target.rtp, target.presented, buffer, sizeof buffer,
-                                            &written),
-                 0, 0);
-    check_equal("settings: written", written, sizeof buffer);
-    for (size_t i = 0; i < written; i++) {
-        snprintf(text, sizeof text, "settings: byte %zu", i);
-        check_equal(text, buffer[i], words[i / 4] >> (24 - 8 * (i % 4)) & 0xFF);
-    }
-}
-
-/* The target of P3. */
-static const target_t p3 = {20, GROUP, MEDIA, SECONDS(998), 8820000, UINT64_C(0x3E6C0000000), 2};
-
-static void test_p1_to_p2(void)
-{
-    target_t target;
-
-    CASE("P1");
-    target = choose(with_one(p1()), now);
-    check_target(target, (target_t){10, GROUP, MEDIA, SECONDS(999), 8910000,
-                                    UINT64_C(0x3E780000000), 1});
-    check_lateness(target, RATE, now, INT64_C(45000) * INT64_C(0x100000000));
-
-    CASE("P2");
-    target = choose(with_one(p2()), now);
-    check_target(target, (target_t){20, GROUP, MEDIA, SECONDS(998), 8820000,
-                                    UINT64_C(0x3E6C0000000), 1});
-    check_lateness(target, RATE, now, INT64_C(67500) * INT64_C(0x100000000));
-}
-
-static void test_p3_to_p4(void)
-{
-    static const uint32_t settings[] = {0x80D30008, 0x00000001, 0x00000007, 0x0000002A, 0x000003E6,
-                                        0x00000000, 0x00869520, 0x000003E6, 0xC0000000};
-    record_t tied = p1();
-
-    CASE("P3");
-    check_target(choose(with_two(p1(), p2()), now), p3);
-    check_target(choose(with_two(p2(), p1()), now), p3);
-    check_settings(choose(with_two(p1(), p2()), now), settings);
-
-    CASE("P4");
-    tied.report.presented = 0x03E7C000;
-    check_chosen(with_two(tied, p2()), now, 10, 2);
-    check_chosen(with_two(p2(), tied), now, 10, 2);
-}
-
-static void test_p6_to_p7(void)
-{
-    record_t wrapped = p1();
-    reading_t second = {SECONDS(1), 9000000};
-    target_t target;
-
-    CASE("P6");
-    wrapped.report.received = UINT64_C(0xFFFFFFFF00000000);
-    wrapped.report.rtp = 9000000;
-    wrapped.report.presented = 0x00004000;
-    target = choose(report(opened(), wrapped, second, PRUNEPOCKET_ACCEPTED), second);
-    check_equal("NTP age", second.ntp - target.received, SECONDS(2));
-    check_equal("delay", target.presented - target.received, SECONDS(5) / 4);
-    check_equal("expanded", target.presented, UINT64_C(0x40000000));
-    check_lateness(target, RATE, second, INT64_C(-67500) * INT64_C(0x100000000));
-
-    CASE("P7");
-    wrapped.report.presented = 0;
-    report(opened(), wrapped, second, PRUNEPOCKET_BADLY_PRESENTED);
-}
-
-/* P1 with one field of choice gets a number at N and R of the cases. */
-static void received_gets(uint64_t received, uint64_t number)
-{
-    record_t record = p1();
-
-    record.report.received = received;
-    report(opened(), record, now, number);
-}
-
-static void rtp_gets(uint32_t rtp, uint64_t number)
-{
-    record_t record = p1();
-
-    record.report.rtp = rtp;
-    report(opened(), record, now, number);
-}
-
-static void presented_gets(uint32_t presented, uint64_t number)
-{
-    record_t record = p1();
-
-    record.report.presented = presented;
-    report(opened(), record, now, number);
-}
-
-static void test_p8_to_p10(void)
-{
-    CASE("P8");
-    received_gets(SECONDS(970), PRUNEPOCKET_ACCEPTED);
-    received_gets(SECONDS(970) - 1, PRUNEPOCKET_RECEIVED_FAR);
-    /* It passes 15. P1's presented time is then half a second before: a delay of 65,535.5 s. */
-    received_gets(SECONDS(1000), PRUNEPOCKET_BADLY_PRESENTED);
-    received_gets(SECONDS(1000) + 1, PRUNEPOCKET_RECEIVED_FAR);
-
-    CASE("P9");
-    rtp_gets(3600000, PRUNEPOCKET_ACCEPTED);
-    rtp_gets(3599999, PRUNEPOCKET_RTP_AGED);
-    rtp_gets(9000001, PRUNEPOCKET_RTP_AGED);
-
-    CASE("P10");
-    presented_gets(0x04050000, PRUNEPOCKET_ACCEPTED);
-    presented_gets(0x04050001, PRUNEPOCKET_BADLY_PRESENTED);
-}
-
-/* ---- Twins ----------------------------------------------------------------------------------- */
+/* The target where both are held. */
+static const target_t target_20 = {
+    20, GROUP, MEDIA, SECONDS(998), 8820000, UINT64_C(0x3E6C0000000), 2,
+};
 
 /* A report on which source 10 would be chosen, from another origin. */
 static record_t twin_at(origin_t origin)
 {
-    record_t twin = p1();
+    record_t twin = record_10();
 
     twin.origin = origin;
     twin.report.presented = 0x03E7F000;
     return twin;
 }
 
-/* The twin's report and farewell get 14, and P3 is unchanged. */
+/* The twin's report and farewell get 14, and the target is unchanged. */
 static void check_twin(table_t table, origin_t origin)
 {
     table_t after = report(table, twin_at(origin), now, PRUNEPOCKET_OTHER_ORIGIN);
 
-    check_target(choose(after, now), p3);
+    check_target(choose(after, now), target_20);
     after = farewell(after, 10, origin, PRUNEPOCKET_OTHER_ORIGIN);
-    check_target(choose(after, now), p3);
-    check_member(after, 0, p1());
-    check_member(after, 1, p2());
-    check_equal("members", prunepocket_members(after), 2);
+    check_target(choose(after, now), target_20);
+    check_member(after, 0, record_10());
+    check_member(after, 1, record_20());
+    check_equal("members", prunepocket_count_members(after), 2);
     check_true("the table as before the twin", same_table(&after, &table));
-}
-
-static void test_twins(void)
-{
-    table_t table;
-    origin_t origin = unit(10);
-
-    CASE("source 10 from a second port");
-    table = with_two(p1(), p2());
-    origin.port = 5006;
-    check_twin(table, origin);
-
-    CASE("source 10 from a second address");
-    check_twin(table, unit(11));
-
-    CASE("source 10 from the unit that holds 20");
-    check_twin(table, unit(20));
-
-    CASE("the twin's report from the holder itself");
-    check_chosen(report(table, twin_at(unit(10)), now, PRUNEPOCKET_ACCEPTED), now, 10, 2);
 }
 
 /* Each of the 144 bits of an origin counts. */
@@ -610,7 +418,7 @@ static void test_near_twins(void)
     table_t table;
 
     CASE("origins that differ in one bit");
-    table = with_two(p1(), p2());
+    table = with_two(record_10(), record_20());
     for (size_t bit = 0; bit < 144; bit++) {
         origin_t origin = unit(10);
 
@@ -622,25 +430,16 @@ static void test_near_twins(void)
     }
 }
 
-static void test_twin_after_farewell(void)
+static void test_two_numbers(void)
 {
     table_t table;
 
-    CASE("the twin takes the number that its holder left");
-    table = with_two(p1(), p2());
-    table = farewell(table, 10, unit(10), PRUNEPOCKET_ACCEPTED);
-    check_vacant(table, 0);
-    check_member(table, 1, p2());
-    table = report(table, twin_at(unit(11)), now, PRUNEPOCKET_ACCEPTED);
-    check_member(table, 0, twin_at(unit(11)));
-    table = report(table, p1(), now, PRUNEPOCKET_OTHER_ORIGIN);
-    farewell(table, 10, unit(10), PRUNEPOCKET_OTHER_ORIGIN);
-
     CASE("one origin holds two numbers");
+    table = with_two(record_10(), record_20());
     table = report(table, arrival(20), now, PRUNEPOCKET_OTHER_ORIGIN);
     table = report(table, arrival(30), now, PRUNEPOCKET_ACCEPTED);
     table = report(table, arrival(31), now, PRUNEPOCKET_ACCEPTED);
-    check_equal("members", prunepocket_members(table), 4);
+    check_equal("members", prunepocket_count_members(table), 4);
     table = farewell(table, 30, unit(30), PRUNEPOCKET_ACCEPTED);
     check_member(table, 3, arrival(31));
 }
@@ -654,7 +453,7 @@ static table_t full_table(void)
 
     for (uint32_t i = 0; i < PRUNEPOCKET_PLACES; i++) {
         table = report(table, arrival(100 + i), now, PRUNEPOCKET_ACCEPTED);
-        check_equal("members", prunepocket_members(table), i + 1);
+        check_equal("members", prunepocket_count_members(table), i + 1);
     }
     return table;
 }
@@ -670,11 +469,11 @@ static void test_full_table(void)
         check_equal("source in the table", number_at(&table, 24 + 56 * i, 4), 100 + i);
     }
     check_chosen(table, now, 100, 64);
-    report(table, p1(), now, PRUNEPOCKET_NO_ROOM);
+    report(table, record_10(), now, PRUNEPOCKET_NO_ROOM);
 
     CASE("a member's next report, where all places are held");
     table = report(table, arrival(163), now, PRUNEPOCKET_ACCEPTED);
-    check_equal("members", prunepocket_members(table), 64);
+    check_equal("members", prunepocket_count_members(table), 64);
 
     CASE("no member stands behind the last place");
     check_vacant(table, 64);
@@ -692,19 +491,19 @@ static void test_freed_places(void)
     table = full_table();
     table = farewell(table, 117, unit(30), PRUNEPOCKET_ACCEPTED);
     check_vacant(table, 17);
-    table = report(table, p1(), now, PRUNEPOCKET_ACCEPTED);
-    check_member(table, 17, p1());
-    report(table, p2(), now, PRUNEPOCKET_NO_ROOM);
+    table = report(table, record_10(), now, PRUNEPOCKET_ACCEPTED);
+    check_member(table, 17, record_10());
+    report(table, record_20(), now, PRUNEPOCKET_NO_ROOM);
 
     CASE("the lowest of two free places is taken first");
     table = farewell(table, 105, unit(30), PRUNEPOCKET_ACCEPTED);
     table = farewell(table, 163, unit(30), PRUNEPOCKET_ACCEPTED);
-    table = report(table, p2(), now, PRUNEPOCKET_ACCEPTED);
-    check_member(table, 5, p2());
+    table = report(table, record_20(), now, PRUNEPOCKET_ACCEPTED);
+    check_member(table, 5, record_20());
     check_vacant(table, 63);
     table = report(table, arrival(200), now, PRUNEPOCKET_ACCEPTED);
     check_member(table, 63, arrival(200));
-    check_equal("members", prunepocket_members(table), 64);
+    check_equal("members", prunepocket_count_members(table), 64);
 }
 
 static void test_farewells(void)
@@ -712,46 +511,16 @@ static void test_farewells(void)
     table_t table;
 
     CASE("a farewell from a number that is not held");
-    table = with_two(p1(), p2());
+    table = with_two(record_10(), record_20());
     farewell(opened(), 10, unit(10), PRUNEPOCKET_NO_MEMBER);
     farewell(opened(), 0, (origin_t){{0}, 0}, PRUNEPOCKET_NO_MEMBER);
     farewell(table, 11, unit(10), PRUNEPOCKET_NO_MEMBER);
     farewell(table, 0, unit(10), PRUNEPOCKET_NO_MEMBER);
-
-    CASE("a second farewell");
-    table = farewell(table, 20, unit(20), PRUNEPOCKET_ACCEPTED);
-    check_chosen(table, now, 10, 1);
-    table = farewell(table, 20, unit(20), PRUNEPOCKET_NO_MEMBER);
-    table = farewell(table, 10, unit(10), PRUNEPOCKET_ACCEPTED);
-    check_none_fresh(table, now);
-    farewell(table, 10, unit(10), PRUNEPOCKET_NO_MEMBER);
 }
 
 /* ---- Reports --------------------------------------------------------------------------------- */
 
-/* Every check applies; they are lifted one by one. */
-static void test_order_of_a_member(void)
-{
-    table_t table;
-    record_t faulty = {10, unit(11), {SECONDS(1001), 43, 8, 9000001, 0x04050001, 33, 1}};
-
-    CASE("the order of 13 to 17");
-    table = with_one(p1());
-    report(table, faulty, now, PRUNEPOCKET_OTHER_STREAM);
-    faulty.report.group = GROUP;
-    report(table, faulty, now, PRUNEPOCKET_OTHER_STREAM);
-    faulty.report.media_source = MEDIA;
-    report(table, faulty, now, PRUNEPOCKET_OTHER_ORIGIN);
-    faulty.origin = unit(10);
-    report(table, faulty, now, PRUNEPOCKET_RECEIVED_FAR);
-    faulty.report.received = SECONDS(999);
-    report(table, faulty, now, PRUNEPOCKET_RTP_AGED);
-    faulty.report.rtp = 8910000;
-    report(table, faulty, now, PRUNEPOCKET_BADLY_PRESENTED);
-    faulty.report.presented = 0x03E78000;
-    report(table, faulty, now, PRUNEPOCKET_ACCEPTED);
-}
-
+/* Every check of a new member applies; they are lifted one by one. */
 static void test_order_of_a_new_member(void)
 {
     table_t table;
@@ -760,7 +529,7 @@ static void test_order_of_a_new_member(void)
     CASE("the order of 13 to 18, where all places are held");
     table = full_table();
     report(table, faulty, now, PRUNEPOCKET_OTHER_STREAM);
-    faulty.report.media_source = MEDIA;
+    faulty.report.media = MEDIA;
     report(table, faulty, now, PRUNEPOCKET_RECEIVED_FAR);
     faulty.report.received = SECONDS(999);
     report(table, faulty, now, PRUNEPOCKET_RTP_AGED);
@@ -772,18 +541,18 @@ static void test_order_of_a_new_member(void)
 
 static void test_standing_report(void)
 {
-    record_t earlier = p1();
-    record_t refused = p1();
+    record_t earlier = record_10();
+    record_t refused = record_10();
     table_t table;
 
     CASE("the last accepted report stands");
-    table = with_two(p1(), p2());
+    table = with_two(record_10(), record_20());
     earlier.report.received = SECONDS(998);
     earlier.report.payload_type = 255;
     table = report(table, earlier, now, PRUNEPOCKET_ACCEPTED);
-    check_equal("members", prunepocket_members(table), 2);
+    check_equal("members", prunepocket_count_members(table), 2);
     check_member(table, 0, earlier);
-    check_member(table, 1, p2());
+    check_member(table, 1, record_20());
 
     CASE("a refused report does not stand");
     refused.report.received = SECONDS(969);
@@ -795,7 +564,7 @@ static void test_standing_report(void)
 static void test_p(void)
 {
     static const uint8_t values[] = {1, 2, 128, 255};
-    record_t record = p1();
+    record_t record = record_10();
 
     CASE("P other than 0");
     for (size_t i = 0; i < sizeof values; i++) {
@@ -823,24 +592,24 @@ static void test_sweeps(void)
     table_t swept;
 
     CASE("a sweep of fresh members");
-    table = with_two(p1(), p2());
+    table = with_two(record_10(), record_20());
     swept = sweep(table, now, 2);
     check_true("the table as before", same_table(&swept, &table));
     swept = sweep(table, (reading_t){SECONDS(1028), 9000000}, 2);
     check_true("the table as before", same_table(&swept, &table));
 
-    CASE("a sweep a unit after P2 was fresh");
+    CASE("a sweep a unit after source 20 was fresh");
     swept = sweep(table, (reading_t){SECONDS(1028) + 1, 9000000}, 1);
-    check_member(swept, 0, p1());
+    check_member(swept, 0, record_10());
     check_vacant(swept, 1);
     farewell(swept, 20, unit(20), PRUNEPOCKET_NO_MEMBER);
     sweep(swept, (reading_t){SECONDS(1029), 9000000}, 1);
     sweep(swept, (reading_t){SECONDS(1029) + 1, 9000000}, 0);
 
-    CASE("a sweep before P1 was received");
+    CASE("a sweep before the report of 10 was received");
     swept = sweep(table, (reading_t){SECONDS(999) - 1, 9000000}, 1);
     check_vacant(swept, 0);
-    check_member(swept, 1, p2());
+    check_member(swept, 1, record_20());
 
     CASE("a sweep of an empty table");
     sweep(opened(), now, 0);
@@ -851,11 +620,11 @@ static void test_sweeps_by_rtp(void)
     table_t table;
 
     CASE("a sweep by the RTP age");
-    table = with_two(p1(), p2());
+    table = with_two(record_10(), record_20());
     sweep(table, (reading_t){SECONDS(1000), 8820000 + 60 * RATE}, 2);
-    check_member(sweep(table, (reading_t){SECONDS(1000), 8820001 + 60 * RATE}, 1), 0, p1());
+    check_member(sweep(table, (reading_t){SECONDS(1000), 8820001 + 60 * RATE}, 1), 0, record_10());
     sweep(table, (reading_t){SECONDS(1000), 8910001 + 60 * RATE}, 0);
-    check_member(sweep(table, (reading_t){SECONDS(1000), 8909999}, 1), 1, p2());
+    check_member(sweep(table, (reading_t){SECONDS(1000), 8909999}, 1), 1, record_20());
 
     CASE("a twin takes the number after a sweep");
     table = sweep(table, (reading_t){SECONDS(1000), 8819999}, 0);
@@ -865,8 +634,8 @@ static void test_sweeps_by_rtp(void)
 
 static void test_arrival_mode(void)
 {
-    record_t first = p1();
-    record_t second = p2();
+    record_t first = record_10();
+    record_t second = record_20();
 
     CASE("no member reports presentation");
     first.report.p = 0;
@@ -880,11 +649,11 @@ static void test_arrival_mode(void)
 
     CASE("a member that reports presentation is counted alone");
     second.report.rtp = 3600000;
-    check_target(choose(with_two(p1(), second), now),
+    check_target(choose(with_two(record_10(), second), now),
                  (target_t){10, GROUP, MEDIA, SECONDS(999), 8910000, UINT64_C(0x3E780000000), 1});
 
     CASE("the member that reports presentation is not fresh");
-    check_target(choose(with_two(first, p2()), (reading_t){SECONDS(1029), 9000000}),
+    check_target(choose(with_two(first, record_20()), (reading_t){SECONDS(1029), 9000000}),
                  (target_t){10, GROUP, MEDIA, SECONDS(999), 8910000, 0, 1});
 }
 
@@ -893,7 +662,7 @@ static void test_none_fresh(void)
     table_t table;
 
     CASE("no fresh member to follow");
-    table = with_two(p1(), p2());
+    table = with_two(record_10(), record_20());
     check_none_fresh(opened(), now);
     check_none_fresh(table, (reading_t){SECONDS(1029) + 1, 9000000});
     check_none_fresh(table, (reading_t){SECONDS(998) - 1, 9000000});
@@ -905,12 +674,12 @@ static void test_none_fresh(void)
     CASE("one is left to follow");
     check_chosen(table, (reading_t){SECONDS(1029), 9000000}, 10, 1);
     check_chosen(table, (reading_t){SECONDS(998), 9000000}, 20, 1);
-    check_equal("members, fresh or not", prunepocket_members(table), 2);
+    check_equal("members, fresh or not", prunepocket_count_members(table), 2);
 }
 
 /* ---- Whole datagrams ------------------------------------------------------------------------- */
 
-/* An empty RR, P1, the settings of P3, P2, and a BYE of 20 and 30. */
+/* An empty RR, the report of 10, the settings, the report of 20, and a BYE of 20 and 30. */
 #define SETTINGS_PLACE (8 + PRUNEPOCKET_REPORT_BYTES)
 #define BYE_PLACE (SETTINGS_PLACE + PRUNEPOCKET_SETTINGS_BYTES + PRUNEPOCKET_REPORT_BYTES)
 #define DATAGRAM_BYTES (BYE_PLACE + 12)
@@ -923,7 +692,7 @@ static void put_report(uint8_t *packet, record_t record)
     check_answer("report: written",
                  prunepocket_write_report(record.source, record.report.payload_type,
                                           record.report.p, record.report.group,
-                                          record.report.media_source, record.report.received,
+                                          record.report.media, record.report.received,
                                           record.report.rtp, record.report.presented, packet,
                                           PRUNEPOCKET_REPORT_BYTES, &written),
                  0, 0);
@@ -937,13 +706,14 @@ static uint8_t *lend_datagram(void)
     uint64_t written = 0;
 
     memcpy(datagram, rr, sizeof rr);
-    put_report(datagram + sizeof rr, p1());
+    put_report(datagram + sizeof rr, record_10());
     check_answer("settings: written",
-                 prunepocket_write_settings(1, p3.group, p3.media_source, p3.received, p3.rtp,
-                                            p3.presented, datagram + SETTINGS_PLACE,
+                 prunepocket_write_settings(1, target_20.group, target_20.media,
+                                            target_20.received, target_20.rtp,
+                                            target_20.presented, datagram + SETTINGS_PLACE,
                                             PRUNEPOCKET_SETTINGS_BYTES, &written),
                  0, 0);
-    put_report(datagram + SETTINGS_PLACE + PRUNEPOCKET_SETTINGS_BYTES, p2());
+    put_report(datagram + SETTINGS_PLACE + PRUNEPOCKET_SETTINGS_BYTES, record_20());
     memcpy(datagram + BYE_PLACE, bye, sizeof bye);
     return datagram;
 }
@@ -953,23 +723,23 @@ static uint8_t *lend_datagram(void)
  * room for so many numbers. The numbers expected stand at its front; behind, it is as it was lent.
  */
 static table_t take(table_t table, const uint8_t *datagram, size_t length, size_t room,
-                    struct prunepocket_refusal refusal, const uint64_t *numbers, size_t count)
+                    struct prunepocket_answer answer, const uint64_t *numbers, size_t count)
 {
     uint64_t *answers = allocate(room * sizeof *answers);
-    fed_t *fed = allocate(sizeof *fed);
+    datagram_answered_t *answered = allocate(sizeof *answered);
     table_t after;
 
     for (size_t i = 0; i < room; i++)
         answers[i] = FILL;
-    *fed = prunepocket_take_datagram(table, datagram, length, unit(10), now, answers, room);
+    *answered = prunepocket_take_datagram(table, datagram, length, unit(10), now, answers, room);
     check_answer("take_datagram",
-                 (struct prunepocket_refusal){number_at(fed, 0, 8), number_at(fed, 8, 8)},
-                 refusal.number, refusal.place);
-    check_equal("take_datagram: count", number_at(fed, 16, 8), count);
+                 (struct prunepocket_answer){number_at(answered, 0, 8), number_at(answered, 8, 8)},
+                 answer.number, answer.place);
+    check_equal("take_datagram: count", number_at(answered, 16, 8), count);
     for (size_t i = 0; i < room; i++)
         check_equal("take_datagram: answers", answers[i], i < count ? numbers[i] : FILL);
-    after = fed->table;
-    free(fed);
+    after = answered->table;
+    free(answered);
     free(answers);
     return after;
 }
@@ -978,31 +748,31 @@ static table_t take(table_t table, const uint8_t *datagram, size_t length, size_
 static void take_refused(table_t table, const uint8_t *datagram, size_t length, size_t room,
                          uint64_t number, uint64_t place)
 {
-    struct prunepocket_refusal refusal = {number, place};
-    table_t after = take(table, datagram, length, room, refusal, NULL, 0);
+    struct prunepocket_answer answer = {number, place};
+    table_t after = take(table, datagram, length, room, answer, NULL, 0);
 
     check_true("take_datagram: the table as before", same_table(&after, &table));
 }
 
 static void test_whole_datagrams(void)
 {
-    static const struct prunepocket_refusal none;
+    static const struct prunepocket_answer none;
     static const uint64_t numbers[] = {PRUNEPOCKET_ACCEPTED, PRUNEPOCKET_ACCEPTED,
                                        PRUNEPOCKET_ACCEPTED, PRUNEPOCKET_NO_MEMBER};
     static const uint64_t again[] = {PRUNEPOCKET_OTHER_ORIGIN, PRUNEPOCKET_ACCEPTED,
                                      PRUNEPOCKET_ACCEPTED, PRUNEPOCKET_OTHER_ORIGIN};
     uint8_t *datagram = lend_datagram();
-    record_t second = p2();
+    record_t second = record_20();
     table_t one_by_one;
     table_t table;
 
     CASE("two reports, the settings and two farewells");
     table = take(opened(), datagram, DATAGRAM_BYTES, DATAGRAM_CALLS, none, numbers, 4);
     second.origin = unit(10);
-    one_by_one = farewell(with_two(p1(), second), 20, unit(10), PRUNEPOCKET_ACCEPTED);
+    one_by_one = farewell(with_two(record_10(), second), 20, unit(10), PRUNEPOCKET_ACCEPTED);
     check_true("as the calls one by one", same_table(&table, &one_by_one));
-    check_member(table, 0, p1());
-    check_equal("members", prunepocket_members(table), 1);
+    check_member(table, 0, record_10());
+    check_equal("members", prunepocket_count_members(table), 1);
 
     CASE("a list that is longer than the calls");
     take(opened(), datagram, DATAGRAM_BYTES, DATAGRAM_CALLS + 3, none, numbers, 4);
@@ -1012,8 +782,8 @@ static void test_whole_datagrams(void)
     take(table, datagram, DATAGRAM_BYTES, DATAGRAM_CALLS, none, again, 4);
 
     CASE("datagrams without calls");
-    table = take(with_one(p1()), datagram, 8, 0, none, NULL, 0);
-    check_member(table, 0, p1());
+    table = take(with_one(record_10()), datagram, 8, 0, none, NULL, 0);
+    check_member(table, 0, record_10());
     free(datagram);
 }
 
@@ -1023,7 +793,7 @@ static void test_refused_datagrams(void)
     table_t table;
 
     CASE("lists that are shorter than the calls");
-    table = with_two(p1(), p2());
+    table = with_two(record_10(), record_20());
     for (size_t room = 0; room < DATAGRAM_CALLS; room++)
         take_refused(table, datagram, DATAGRAM_BYTES, room, PRUNEPOCKET_SHORT_BUFFER, 0);
 
@@ -1048,7 +818,7 @@ static void opening_refused(uint32_t group, uint32_t media, uint32_t rate)
 
     check_equal("open: number", answered.number, PRUNEPOCKET_BAD_OPENING);
     check_true("open: no table", same_table(&answered.table, &zeros));
-    check_equal("open: members", prunepocket_members(answered.table), 0);
+    check_equal("open: members", prunepocket_count_members(answered.table), 0);
 }
 
 static void test_openings(void)
@@ -1135,7 +905,7 @@ static void test_reading_limits(void)
 /* A report of source 10, received at some time and presented some 2^-16 s after its M. */
 static void step_gets(uint64_t received, uint32_t step, uint64_t number)
 {
-    record_t record = p1();
+    record_t record = record_10();
     reading_t reading = {received, 8910000};
     table_t table;
     uint64_t full = (received >> 16 << 16) + ((uint64_t)step << 16);
@@ -1229,8 +999,8 @@ static void test_small_differences(void)
         check_second(rates[i], first, second, 30);
 
         CASE("presented a unit later");
-        first.report = p1().report;
-        second.report = p1().report;
+        first.report = record_10().report;
+        second.report = record_10().report;
         check_second(RATE, first, second, 30);
         second.report.presented += 1;
         check_second(RATE, first, second, 31);
@@ -1248,7 +1018,7 @@ static record_t record_of(const uint64_t *row, origin_t origin)
         {
             .received = row[PRUNEPOCKET_FIELD_RECEIVED],
             .group = (uint32_t)row[PRUNEPOCKET_FIELD_GROUP],
-            .media_source = (uint32_t)row[PRUNEPOCKET_FIELD_MEDIA_SOURCE],
+            .media = (uint32_t)row[PRUNEPOCKET_FIELD_MEDIA],
             .rtp = (uint32_t)row[PRUNEPOCKET_FIELD_RTP],
             .presented = (uint32_t)row[PRUNEPOCKET_FIELD_PRESENTED],
             .payload_type = (uint8_t)row[PRUNEPOCKET_FIELD_PAYLOAD_TYPE],
@@ -1286,19 +1056,19 @@ static void test_datagrams(void)
     uint64_t written = 0;
     table_t table;
 
-    CASE("P2 out of a datagram");
-    table = with_one(p1());
+    CASE("a report out of a datagram");
+    table = with_one(record_10());
     check_answer("write_report",
                  prunepocket_write_report(20, 33, 1, GROUP, MEDIA, SECONDS(998), 8820000,
                                           0x03E6C000, datagram + 8, sizeof datagram - 8, &written),
                  0, 0);
     table = take_datagram(table, datagram, sizeof datagram, unit(20));
-    check_member(table, 1, p2());
-    check_target(choose(table, now), p3);
+    check_member(table, 1, record_20());
+    check_target(choose(table, now), target_20);
 
     CASE("a BYE with both sources, from the second unit");
     table = take_datagram(table, bye, sizeof bye, unit(20));
-    check_member(table, 0, p1());
+    check_member(table, 0, record_10());
     check_vacant(table, 1);
 }
 
@@ -1313,13 +1083,13 @@ static void test_two_tables(void)
     CASE("two tables in turn");
     one = opened();
     other = open_table(43, MEDIA, 8000);
-    alone = with_two(p1(), p2());
+    alone = with_two(record_10(), record_20());
     foreign.report.group = 43;
-    one = report(one, p1(), now, PRUNEPOCKET_ACCEPTED);
+    one = report(one, record_10(), now, PRUNEPOCKET_ACCEPTED);
     other = report(other, foreign, now, PRUNEPOCKET_ACCEPTED);
     one = report(one, foreign, now, PRUNEPOCKET_OTHER_STREAM);
     other = farewell(other, 10, unit(10), PRUNEPOCKET_OTHER_ORIGIN);
-    one = report(one, p2(), now, PRUNEPOCKET_ACCEPTED);
+    one = report(one, record_20(), now, PRUNEPOCKET_ACCEPTED);
     other = farewell(other, 10, unit(30), PRUNEPOCKET_ACCEPTED);
     check_true("as the one table alone", same_table(&one, &alone));
     check_none_fresh(other, now);
@@ -1372,7 +1142,7 @@ static record_t random_record(const table_t *table, int few)
         record = table->members[next_random() % PRUNEPOCKET_PLACES];
     if (next_random() % 8 != 0) {
         record.report.group = table->group;
-        record.report.media_source = table->media_source;
+        record.report.media = table->media;
     }
     if (next_random() % 4 == 0)
         record.source = (uint32_t)next_random();
@@ -1454,11 +1224,11 @@ static void random_choice(table_t table, reading_t reading)
     check_true("sweep: all else as before", same_table(&swept.table, &table));
 }
 
-static void random_seats(table_t table)
+static void random_places(table_t table)
 {
     size_t place = (size_t)next_random();
 
-    check_equal("members", prunepocket_members(table), ones(table.held));
+    check_equal("members", prunepocket_count_members(table), ones(table.held));
     if (place >= PRUNEPOCKET_PLACES)
         check_vacant(table, place);
     place %= PRUNEPOCKET_PLACES;
@@ -1475,7 +1245,7 @@ static void random_opening(void)
     answered_t answered = prunepocket_open(group, (uint32_t)next_random(), rate);
 
     check_number("open: number", answered.number, 12, 12);
-    check_equal("open: members", prunepocket_members(answered.table), 0);
+    check_equal("open: members", prunepocket_count_members(answered.table), 0);
 }
 
 static void test_random_tables(void)
@@ -1492,7 +1262,7 @@ static void test_random_tables(void)
         random_report(table, record, reading);
         random_farewell(table, record.source, record.origin);
         random_choice(table, reading);
-        random_seats(table);
+        random_places(table);
         random_opening();
     }
 
@@ -1510,17 +1280,11 @@ int main(void)
     test_opened_bytes();
     test_filed_bytes();
     test_followed_bytes();
-    test_p1_to_p2();
-    test_p3_to_p4();
-    test_p6_to_p7();
-    test_p8_to_p10();
-    test_twins();
     test_near_twins();
-    test_twin_after_farewell();
+    test_two_numbers();
     test_full_table();
     test_freed_places();
     test_farewells();
-    test_order_of_a_member();
     test_order_of_a_new_member();
     test_standing_report();
     test_p();

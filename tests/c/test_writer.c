@@ -20,7 +20,7 @@ struct message {
     uint32_t payload_type;
     uint32_t p;
     uint32_t group;
-    uint32_t media_source;
+    uint32_t media;
     uint64_t received;
     uint32_t rtp;
     uint64_t presented;
@@ -28,13 +28,13 @@ struct message {
 
 /* ---- One call -------------------------------------------------------------------------------- */
 
-static struct prunepocket_refusal write_message(const struct message *m, uint8_t *buffer,
+static struct prunepocket_answer write_message(const struct message *m, uint8_t *buffer,
                                                 size_t length, uint64_t *written)
 {
     if (m->size == PRUNEPOCKET_SETTINGS_BYTES)
-        return prunepocket_write_settings(m->sender, m->group, m->media_source, m->received,
+        return prunepocket_write_settings(m->sender, m->group, m->media, m->received,
                                           m->rtp, m->presented, buffer, length, written);
-    return prunepocket_write_report(m->sender, m->payload_type, m->p, m->group, m->media_source,
+    return prunepocket_write_report(m->sender, m->payload_type, m->p, m->group, m->media,
                                     m->received, m->rtp, (uint32_t)m->presented, buffer, length,
                                     written);
 }

@@ -121,7 +121,7 @@ fn report(rng: &mut Rng, world: &mut World, source: u32) -> Report {
         payload_type: report.payload_type >> 1,
         p,
         group: report.group,
-        media_source: report.media,
+        media: report.media,
         received: report.received,
         rtp: report.rtp,
         presented: if p { report.presented } else { 0 },
@@ -134,7 +134,7 @@ fn settings(rng: &mut Rng, world: &mut World, source: u32) -> Settings {
     Settings {
         source,
         group: report.group,
-        media_source: report.media_source,
+        media: report.media,
         received: report.received,
         rtp: report.rtp,
         presented: u64::from(report.presented) << 16,

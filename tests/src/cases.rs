@@ -3,7 +3,6 @@
 //! A case is a name, a datagram in hex (`repeat N BYTE` stands for N equal
 //! bytes), an index where one item is asked for, and the expected lines.
 
-use crate::archive;
 use crate::decoder::decode;
 use crate::items::{Refusal, ROW};
 
@@ -102,10 +101,10 @@ pub fn archive_lines(case: &Case) -> Vec<String> {
 
 fn all_lines(datagram: &[u8]) -> Result<Vec<String>, Refusal> {
     let mut count = 0;
-    archive::count_items(datagram, &mut count)?;
+    prunepocket_sys::count_items(datagram, &mut count)?;
     let mut rows = vec![0; ROW * count as usize];
     let mut rows_count = 0;
-    archive::read_items(datagram, &mut rows, &mut rows_count)?;
+    prunepocket_sys::read_items(datagram, &mut rows, &mut rows_count)?;
     let mut lines = vec![format!("items {rows_count}")];
     for (index, row) in rows.chunks_exact(ROW).enumerate() {
         let line = row_line(row);
@@ -118,14 +117,14 @@ fn all_lines(datagram: &[u8]) -> Result<Vec<String>, Refusal> {
 
 fn line_at(datagram: &[u8], index: u64) -> Result<String, Refusal> {
     let mut row = [0; ROW];
-    archive::item_field(datagram, index, 0, &mut row[0])?;
+    prunepocket_sys::item_field(datagram, index, 0, &mut row[0])?;
     let fields = match row[0] {
         1 => 10,
         2 => 8,
         _ => 3,
     };
     for (field, value) in row[..fields].iter_mut().enumerate() {
-        archive::item_field(datagram, index, field as u64, value)?;
+        prunepocket_sys::item_field(datagram, index, field as u64, value)?;
     }
     Ok(row_line(&row))
 }

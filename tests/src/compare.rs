@@ -1,7 +1,6 @@
 //! The comparison of the archive with the decoder, datagram by datagram:
 //! answers, every field and row, and the lent memory after refusals.
 
-use crate::archive;
 use crate::decoder::{decode_with, Fault};
 use crate::generator::Rng;
 use crate::items::{PlacedItem, Refusal, ROW};
@@ -76,7 +75,7 @@ impl Comparison {
 
     fn check_count(&self, datagram: &[u8], expected: &Answer) -> Verdict {
         let mut count = BEFORE;
-        let answer = archive::count_items(datagram, &mut count);
+        let answer = prunepocket_sys::count_items(datagram, &mut count);
         match expected {
             Ok(items) => {
                 same(format_args!("the count call"), &answer, &Ok(()))?;
@@ -136,7 +135,7 @@ impl Comparison {
         expected: Result<&[PlacedItem], Refusal>,
     ) -> Verdict {
         let mut count = BEFORE;
-        let answer = archive::read_items(datagram, self.arena.lend(length), &mut count);
+        let answer = prunepocket_sys::read_items(datagram, self.arena.lend(length), &mut count);
         let (expected_answer, expected_count, items) = match expected {
             Ok(items) => (Ok(()), items.len() as u64, items),
             Err(refusal) => (Err(refusal), BEFORE, &[][..]),
@@ -181,7 +180,7 @@ impl Comparison {
 
 fn check_field(datagram: &[u8], index: u64, field: u64, expected: Result<u64, Refusal>) -> Verdict {
     let mut value = BEFORE;
-    let answer = archive::item_field(datagram, index, field, &mut value);
+    let answer = prunepocket_sys::item_field(datagram, index, field, &mut value);
     let call = format_args!("field {field} at index {index}");
     same(call, &answer, &expected.map(|_| ()))?;
     same(call, &value, &expected.unwrap_or(BEFORE))

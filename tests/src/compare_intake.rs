@@ -1,7 +1,7 @@
 //! The comparison of the archive's intake of whole datagrams with the
 //! independent one: the answer, the whole list, all members and a choice.
 
-use crate::archive_table::{Seat, Table};
+use crate::archive;
 use crate::arrivals::{Arrival, Course, Event};
 use crate::compare::{same, Lent, Verdict, BEFORE};
 use crate::compare_table::fewest;
@@ -10,6 +10,7 @@ use crate::generator::Rng;
 use crate::intake::{Answer, Fault, Intake};
 use crate::items::Item;
 use crate::members::{Call, Reading};
+use prunepocket_sys::{Place, Table};
 
 /// Numbers on both sides of a lent list that must stay as before.
 const GUARD: usize = 16;
@@ -44,11 +45,6 @@ impl Tally {
     /// Datagrams that were taken in, refused or not.
     pub fn taken(&self) -> u64 {
         self.datagrams.iter().sum()
-    }
-
-    /// How often an answer was met with both kinds of calls.
-    pub fn met(&self, number: usize) -> u64 {
-        self.calls.iter().map(|answers| answers[number]).sum()
     }
 
     /// An accepted datagram's items, with the numbers of its calls.
@@ -98,7 +94,7 @@ impl IntakeComparison {
     /// take a datagram.
     pub fn check(&mut self, course: &Course) -> Verdict {
         self.tally.courses += 1;
-        let table = Table::open(&course.opening);
+        let table = archive::open(&course.opening);
         let intake = Intake::open(&course.opening, self.fault);
         let (table, intake) = match (table, intake) {
             (Ok(table), Ok(intake)) => (table, intake),
@@ -138,24 +134,24 @@ impl IntakeComparison {
         let expected = sides
             .intake
             .take(arrival, &mut expected_memory[list.clone()]);
-        let fed = sides.table.take(
+        let taken = sides.table.take_datagram(
             lent.datagram(),
             &arrival.origin,
             &arrival.reading,
             &mut memory[list.clone()],
         );
         let answer = Answer {
-            number: fed.number,
-            place: fed.place,
-            count: fed.count,
+            number: taken.number,
+            place: taken.place,
+            count: taken.count,
         };
         let call = format_args!("a list of {}", arrival.length);
         same(call, &answer, &expected)?;
         check_memory(&memory, &expected_memory)?;
-        if answer.number != 0 && fed.table != sides.table {
+        if answer.number != 0 && taken.table != sides.table {
             return Err(String::from("the table after a refusal is not as before"));
         }
-        sides.table = fed.table;
+        sides.table = taken.table;
         if answer.number == 0 {
             let numbers = &memory[list][..answer.count as usize];
             self.tally.count_items(&arrival.datagram, numbers);
@@ -168,17 +164,17 @@ impl IntakeComparison {
         let members = sides.intake.members();
         for (place, member) in members.iter().enumerate() {
             let expected = match member {
-                None => Seat::default(),
-                Some(member) => Seat {
+                None => Place::default(),
+                Some(member) => Place {
                     held: 1,
                     member: *member,
                 },
             };
-            let seat = sides.table.seat(place);
-            same(format_args!("place {place}"), &seat, &expected)?;
+            let shown = sides.table.member_at(place);
+            same(format_args!("place {place}"), &shown, &expected)?;
         }
         let count = members.iter().flatten().count();
-        let answer = sides.table.members();
+        let answer = sides.table.count_members();
         same(format_args!("how many members"), &answer, &(count as u32))?;
         self.tally.empty_tables += u64::from(count == 0);
         self.tally.full_tables += u64::from(count == members.len());
@@ -188,14 +184,14 @@ impl IntakeComparison {
 
     fn check_choice(&mut self, sides: &Sides, reading: &Reading) -> Verdict {
         let expected = sides.intake.choose(reading);
-        let (choice, _, after) = sides.table.choose(reading);
-        same(format_args!("the choice"), &choice, &expected)?;
-        if after != sides.table {
+        let followed = sides.table.choose(reading);
+        same(format_args!("the choice"), &followed.choice(), &expected)?;
+        if followed.table != sides.table {
             return Err(String::from("the table after choosing is not as before"));
         }
-        match choice {
-            Ok(_) => self.tally.targets += 1,
-            Err(_) => self.tally.none_fresh += 1,
+        match followed.number {
+            0 => self.tally.targets += 1,
+            _ => self.tally.none_fresh += 1,
         }
         Ok(())
     }
@@ -204,9 +200,9 @@ impl IntakeComparison {
 /// A single call between the datagrams.
 fn check_call(sides: &mut Sides, call: &Call) -> Verdict {
     let expected = sides.intake.call(call);
-    let (number, after) = sides.table.call(call);
-    same(format_args!("the answer"), &number, &expected)?;
-    sides.table = after;
+    let answered = archive::call(&sides.table, call);
+    same(format_args!("the answer"), &answered.number, &expected)?;
+    sides.table = answered.table;
     Ok(())
 }
 

@@ -1,13 +1,14 @@
 //! The comparison of the archive's member table with the plain register, call
 //! by call, and of its targets with their definition.
 
-use crate::archive_table::{Seat, Table, PLACES};
+use crate::archive;
 use crate::compare::{same, Verdict};
 use crate::generator::Rng;
 use crate::histories::{History, Step};
 use crate::members::{Call, Opening, Reading, Record, Target};
 use crate::register::{Fault, Register};
-use crate::target::{Scene, Seen};
+use crate::target::{AtReading, Seen};
+use prunepocket_sys::{Answered, Place, Table, PLACES};
 
 /// Kinds of calls, as columns of a tally.
 pub const KINDS: [&str; 5] = ["open", "report", "farewell", "sweep", "choose"];
@@ -84,7 +85,7 @@ impl TableComparison {
     }
 
     fn open(&mut self, opening: &Opening) -> Result<Option<Sides>, String> {
-        let table = Table::open(opening);
+        let table = archive::open(opening);
         let register = Register::open(opening, self.fault);
         let number = |refused: Option<&u64>| refused.copied().unwrap_or(0);
         let answer = number(table.as_ref().err());
@@ -112,19 +113,19 @@ impl TableComparison {
     fn check_call(&mut self, sides: &mut Sides, call: &Call) -> Verdict {
         let rows = sides.register.rows().len();
         let expected = sides.register.call(call);
-        let (number, after) = sides.table.call(call);
+        let Answered { number, table } = archive::call(&sides.table, call);
         same(format_args!("the answer"), &number, &expected)?;
         self.tally.answers[kind(call)][number as usize] += 1;
-        if number != 0 && after != sides.table {
+        if number != 0 && table != sides.table {
             return Err(String::from("the table after a refusal is not as before"));
         }
         match call {
             Call::Report(told, _) if sides.register.rows().len() > rows => {
-                check_new_place(&sides.table, &after, told)?;
+                check_new_place(&sides.table, &table, told)?;
             }
             _ => {}
         }
-        sides.table = after;
+        sides.table = table;
         Ok(())
     }
 
@@ -132,7 +133,7 @@ impl TableComparison {
     fn check_members(&mut self, sides: &Sides) -> Verdict {
         let mut members = members_of(&sides.table)?;
         let mut rows = sides.register.rows().to_vec();
-        let count = sides.table.members();
+        let count = sides.table.count_members();
         same(
             format_args!("how many members"),
             &count,
@@ -143,8 +144,8 @@ impl TableComparison {
         same(format_args!("the members"), &members, &rows)?;
         let outside = PLACES + (self.rng.number() as usize >> self.rng.between(1, 63));
         for place in [PLACES, outside, usize::MAX] {
-            let seat = sides.table.seat(place);
-            same(format_args!("place {place}"), &seat, &Seat::default())?;
+            let shown = sides.table.member_at(place);
+            same(format_args!("place {place}"), &shown, &Place::default())?;
         }
         self.tally.member_lists += 1;
         self.tally.full_lists += u64::from(rows.len() == PLACES);
@@ -156,23 +157,27 @@ impl TableComparison {
     /// the table as it was.
     fn check_choice(&mut self, sides: &Sides, reading: &Reading) -> Verdict {
         let expected = sides.register.choose(reading);
-        let (choice, target, after) = sides.table.choose(reading);
+        let followed = sides.table.choose(reading);
+        let choice = followed.choice();
         same(format_args!("the choice"), &choice, &expected)?;
-        if after != sides.table {
+        if followed.table != sides.table {
             return Err(String::from("the table after choosing is not as before"));
         }
-        let number = choice.err().unwrap_or(0);
-        if number != 0 {
+        if choice.is_err() {
             let nothing = Target::default();
-            same(format_args!("the target beside 20"), &target, &nothing)?;
+            same(
+                format_args!("the target beside 20"),
+                &followed.target,
+                &nothing,
+            )?;
         }
-        self.tally.answers[4][number as usize] += 1;
-        let scene = Scene {
+        self.tally.answers[4][followed.number as usize] += 1;
+        let at_reading = AtReading {
             rate: sides.opening.rate,
             reading: *reading,
             members: &members_of(&sides.table)?,
         };
-        let seen = scene.check(&choice, &samples(&mut self.rng));
+        let seen = at_reading.check(&choice, &samples(&mut self.rng));
         let seen = seen.map_err(|wrong| format!("the target {choice:?}: {wrong}"))?;
         self.tally.targets.count(seen);
         Ok(())
@@ -207,25 +212,25 @@ fn check_new_place(before: &Table, after: &Table, told: &Record) -> Verdict {
     let place = before.held.trailing_ones();
     let held = before.held | 1 << place;
     same(format_args!("the places held"), &after.held, &held)?;
-    let expected = Seat {
+    let expected = Place {
         held: 1,
         member: *told,
     };
-    let seat = after.seat(place as usize);
-    same(format_args!("the lowest free place"), &seat, &expected)
+    let shown = after.member_at(place as usize);
+    same(format_args!("the lowest free place"), &shown, &expected)
 }
 
 /// The members at all places.
 fn members_of(table: &Table) -> Result<Vec<Record>, String> {
     let mut members = Vec::new();
     for place in 0..PLACES {
-        let seat = table.seat(place);
-        match seat.held {
-            1 => members.push(seat.member),
+        let shown = table.member_at(place);
+        match shown.held {
+            1 => members.push(shown.member),
             _ => same(
                 format_args!("the free place {place}"),
-                &seat,
-                &Seat::default(),
+                &shown,
+                &Place::default(),
             )?,
         }
     }

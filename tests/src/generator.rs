@@ -2,8 +2,9 @@
 //! noise. A valid compound knows the items that were written into it. For the
 //! writers, messages with fields in and out of range, and lengths of buffers.
 
-use crate::encoder::{Message, ReportFields};
+use crate::encoder::Message;
 use crate::items::{Item, PlacedItem, Report, Settings};
+use prunepocket_sys::{ReportMessage, SettingsMessage};
 
 /// Used where PRUNEPOCKET_SEED is not set.
 pub const SEED: u64 = 0x7272_3611_3550_0012;
@@ -344,7 +345,7 @@ impl Compound {
         let settings = Settings {
             source: rng.field(),
             group: rng.field(),
-            media_source: rng.field(),
+            media: rng.field(),
             received: rng.number(),
             rtp: rng.field(),
             presented: match rng.chance(30) {
@@ -412,7 +413,7 @@ impl Compound {
             payload_type: rng.byte() >> 1,
             p,
             group: rng.field(),
-            media_source: rng.field(),
+            media: rng.field(),
             received: rng.number(),
             rtp: rng.field(),
             presented: if p { field } else { 0 },
@@ -484,7 +485,7 @@ impl Compound {
 fn report_fields(report: &Report) -> Vec<u8> {
     [
         &report.group.to_be_bytes()[..],
-        &report.media_source.to_be_bytes(),
+        &report.media.to_be_bytes(),
         &report.received.to_be_bytes(),
         &report.rtp.to_be_bytes(),
     ]
@@ -495,7 +496,7 @@ fn report_fields(report: &Report) -> Vec<u8> {
 fn settings_fields(settings: &Settings) -> Vec<u8> {
     [
         &settings.source.to_be_bytes()[..],
-        &settings.media_source.to_be_bytes(),
+        &settings.media.to_be_bytes(),
         &settings.group.to_be_bytes(),
         &settings.received.to_be_bytes(),
         &settings.rtp.to_be_bytes(),
@@ -748,8 +749,8 @@ pub fn report_message(rng: &mut Rng) -> Message {
         _ => 1,
     };
     let empty = if p == 0 { 85 } else { 15 };
-    Message::Report(ReportFields {
-        source: rng.edge(),
+    Message::Report(ReportMessage {
+        sender: rng.edge(),
         payload_type: match rng.below(10) {
             0 | 1 => rng.edge(),
             2 => rng.pick(&[0, 1, 127, 128]),
@@ -757,7 +758,7 @@ pub fn report_message(rng: &mut Rng) -> Message {
         },
         p,
         group: rng.edge(),
-        media_source: rng.edge(),
+        media: rng.edge(),
         received: rng.long_edge(),
         rtp: rng.edge(),
         presented: match rng.chance(empty) {
@@ -768,10 +769,10 @@ pub fn report_message(rng: &mut Rng) -> Message {
 }
 
 pub fn settings_message(rng: &mut Rng) -> Message {
-    Message::Settings(Settings {
-        source: rng.edge(),
+    Message::Settings(SettingsMessage {
+        sender: rng.edge(),
         group: rng.edge(),
-        media_source: rng.edge(),
+        media: rng.edge(),
         received: rng.long_edge(),
         rtp: rng.edge(),
         presented: match rng.chance(30) {

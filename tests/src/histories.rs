@@ -2,7 +2,7 @@
 //! readings that jump, wrap and repeat, and times at and next to every limit.
 
 use crate::generator::Rng;
-use crate::members::{Call, Opening, Origin, Reading, Record, Report};
+use crate::members::{Call, Opening, Origin, Reading, Record, ReportFields};
 
 const SECOND: u64 = 1 << 32;
 
@@ -141,7 +141,7 @@ pub(crate) struct World {
     sources: Vec<u32>,
     origins: Vec<Origin>,
     pub(crate) clock: Reading,
-    recent: Vec<Report>,
+    recent: Vec<ReportFields>,
 }
 
 impl World {
@@ -309,7 +309,7 @@ impl World {
     }
 
     /// A report at the clock's reading.
-    pub(crate) fn report(&mut self, rng: &mut Rng) -> Report {
+    pub(crate) fn report(&mut self, rng: &mut Rng) -> ReportFields {
         let mut report = match !self.recent.is_empty() && rng.chance(self.temper.echoes) {
             true => self.echo(rng),
             false => self.fresh_report(rng),
@@ -321,7 +321,7 @@ impl World {
         report
     }
 
-    fn remember(&mut self, rng: &mut Rng, report: Report) {
+    fn remember(&mut self, rng: &mut Rng, report: ReportFields) {
         if self.recent.len() < REMEMBERED {
             self.recent.push(report);
         } else {
@@ -330,9 +330,9 @@ impl World {
         }
     }
 
-    fn fresh_report(&self, rng: &mut Rng) -> Report {
+    fn fresh_report(&self, rng: &mut Rng) -> ReportFields {
         let received = self.received(rng);
-        Report {
+        ReportFields {
             received,
             group: self.opening.group,
             media: self.opening.media,
@@ -391,7 +391,7 @@ impl World {
 
     /// The times of a remembered report or nearly those, so that members are
     /// equally late, or almost.
-    fn echo(&self, rng: &mut Rng) -> Report {
+    fn echo(&self, rng: &mut Rng) -> ReportFields {
         let mut report = rng.pick(&self.recent);
         report.group = self.opening.group;
         report.media = self.opening.media;
@@ -408,7 +408,7 @@ impl World {
     }
 
     /// Whole seconds earlier on all clocks: the lateness stays.
-    fn shift(&self, rng: &mut Rng, report: &mut Report) {
+    fn shift(&self, rng: &mut Rng, report: &mut ReportFields) {
         let seconds = rng.between(1, 9) as u32;
         let ticks = seconds.wrapping_mul(self.opening.rate);
         report.received = report.received.wrapping_sub(u64::from(seconds) << 32);
@@ -416,7 +416,7 @@ impl World {
         report.presented = report.presented.wrapping_sub(seconds << 16);
     }
 
-    fn spoil_identifiers(&self, rng: &mut Rng, report: &mut Report) {
+    fn spoil_identifiers(&self, rng: &mut Rng, report: &mut ReportFields) {
         match rng.below(5) {
             0 => report.group ^= 1 << rng.below(32),
             1 => report.media ^= 1 << rng.below(32),

@@ -8,7 +8,7 @@
 use crate::arrivals::Arrival;
 use crate::decoder::decode;
 use crate::items::{Item, PlacedItem, Refusal};
-use crate::members::{Call, Choice, Opening, Reading, Record, Report};
+use crate::members::{Call, Choice, Opening, Reading, Record, ReportFields};
 use crate::register::Register;
 
 /// Places in a table.
@@ -96,6 +96,7 @@ impl Answer {
 }
 
 /// A register, with the source that stands at each place of a table.
+#[derive(Clone)]
 pub struct Intake {
     register: Register,
     places: [Option<u32>; PLACES],
@@ -132,7 +133,7 @@ impl Intake {
         let number = self.register.call(call);
         match *call {
             _ if number != 0 => {}
-            Call::Report(told, _) => self.seat(told.source),
+            Call::Report(told, _) => self.take_place(told.source),
             Call::Farewell(source, _) => self.keep_places(|held| held != source),
             Call::Sweep(_) => {
                 let rows: Vec<u32> = self.register.rows().iter().map(|row| row.source).collect();
@@ -143,7 +144,7 @@ impl Intake {
     }
 
     /// A new member takes the lowest free place.
-    fn seat(&mut self, source: u32) {
+    fn take_place(&mut self, source: u32) {
         if self.places.contains(&Some(source)) {
             return;
         }
@@ -256,7 +257,7 @@ impl Intake {
     }
 
     fn call_of(&self, arrival: &Arrival, item: &Item) -> Option<Call> {
-        let file = |source: u32, report: Report| {
+        let file = |source: u32, report: ReportFields| {
             let record = Record {
                 source,
                 origin: arrival.origin,
@@ -267,10 +268,10 @@ impl Intake {
         match item {
             Item::Report(report) => file(
                 report.source,
-                Report {
+                ReportFields {
                     received: report.received,
                     group: report.group,
-                    media: report.media_source,
+                    media: report.media,
                     rtp: report.rtp,
                     presented: report.presented,
                     payload_type: report.payload_type,
@@ -279,10 +280,10 @@ impl Intake {
             ),
             Item::Settings(settings) if self.planted(Fault::SettingsFiled) => file(
                 settings.source,
-                Report {
+                ReportFields {
                     received: settings.received,
                     group: settings.group,
-                    media: settings.media_source,
+                    media: settings.media,
                     rtp: settings.rtp,
                     presented: (settings.presented >> 16) as u32,
                     payload_type: 0,

@@ -3,27 +3,10 @@
 
 use std::fmt;
 
+pub use prunepocket_sys::Refusal;
+
 /// Columns of a row.
 pub const ROW: usize = 10;
-
-#[derive(Clone, Copy, Debug, PartialEq, Eq)]
-pub struct Refusal {
-    pub number: u64,
-    pub place: u64,
-}
-
-impl Refusal {
-    pub fn new(number: u64, place: usize) -> Self {
-        let place = place as u64;
-        Refusal { number, place }
-    }
-}
-
-impl fmt::Display for Refusal {
-    fn fmt(&self, f: &mut fmt::Formatter<'_>) -> fmt::Result {
-        write!(f, "refused {} at {}", self.number, self.place)
-    }
-}
 
 /// A type-12 XR block with role 1, and the XR sender's SSRC.
 #[derive(Clone, Copy, Debug, PartialEq, Eq)]
@@ -32,7 +15,7 @@ pub struct Report {
     pub payload_type: u8,
     pub p: bool,
     pub group: u32,
-    pub media_source: u32,
+    pub media: u32,
     pub received: u64,
     pub rtp: u32,
     /// 0 where P is 0.
@@ -44,7 +27,7 @@ pub struct Report {
 pub struct Settings {
     pub source: u32,
     pub group: u32,
-    pub media_source: u32,
+    pub media: u32,
     pub received: u64,
     pub rtp: u32,
     /// 0 if empty.
@@ -106,7 +89,7 @@ impl Report {
         match field {
             2 => Some(self.source.into()),
             3 => Some(self.group.into()),
-            4 => Some(self.media_source.into()),
+            4 => Some(self.media.into()),
             5 => Some(self.received),
             6 => Some(self.rtp.into()),
             7 => Some(self.presented.into()),
@@ -122,7 +105,7 @@ impl Settings {
         match field {
             2 => Some(self.source.into()),
             3 => Some(self.group.into()),
-            4 => Some(self.media_source.into()),
+            4 => Some(self.media.into()),
             5 => Some(self.received),
             6 => Some(self.rtp.into()),
             7 => Some(self.presented),
@@ -151,7 +134,7 @@ impl fmt::Display for Report {
             self.payload_type,
             u8::from(self.p),
             self.group,
-            self.media_source,
+            self.media,
             self.received >> 32,
             self.received & 0xFFFF_FFFF,
             self.rtp,
@@ -168,7 +151,7 @@ impl fmt::Display for Settings {
             "source {} group {} media {} received {} {} rtp {} presented {} {}",
             self.source,
             self.group,
-            self.media_source,
+            self.media,
             self.received >> 32,
             self.received & 0xFFFF_FFFF,
             self.rtp,

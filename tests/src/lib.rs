@@ -3,7 +3,6 @@
 //! libprunepocket.a.
 
 pub mod archive;
-pub mod archive_table;
 pub mod arrivals;
 pub mod cases;
 pub mod compare;
@@ -18,4 +17,7 @@ pub mod intake;
 pub mod items;
 pub mod members;
 pub mod register;
+pub mod scenes;
+pub mod sides;
+pub mod tallies;
 pub mod target;

@@ -4,7 +4,7 @@
 //! As in the decoder, a `Fault` plants one error that the comparison has to
 //! find.
 
-use crate::members::{Call, Choice, Opening, Origin, Reading, Record, Report, Target};
+use crate::members::{Call, Choice, Opening, Origin, Reading, Record, ReportFields, Target};
 use std::cmp::Reverse;
 
 const SECOND: i128 = 1 << 32;
@@ -219,7 +219,7 @@ impl Register {
     }
 
     /// 13: another group or media source.
-    fn is_foreign(&self, report: &Report) -> bool {
+    fn is_foreign(&self, report: &ReportFields) -> bool {
         let group = report.group != self.opening.group && !self.planted(Fault::GroupIgnored);
         let media = report.media != self.opening.media && !self.planted(Fault::MediaIgnored);
         group || media
@@ -232,7 +232,7 @@ impl Register {
     }
 
     /// 15: received not within 30 s at or before the reading.
-    fn is_old(&self, report: &Report, reading: &Reading) -> bool {
+    fn is_old(&self, report: &ReportFields, reading: &Reading) -> bool {
         let more = match self.fault {
             Some(Fault::NtpLimit(more)) => more,
             _ => 0,
@@ -241,7 +241,7 @@ impl Register {
     }
 
     /// 16: RTP age above 60 seconds of media clock.
-    fn is_old_media(&self, report: &Report, reading: &Reading) -> bool {
+    fn is_old_media(&self, report: &ReportFields, reading: &Reading) -> bool {
         let more = match self.fault {
             Some(Fault::RtpLimit(more)) => more,
             _ => 0,
@@ -251,7 +251,7 @@ impl Register {
     }
 
     /// 17, only where P is 1: delay over 30 s, or expanded presentation 0.
-    fn is_late(&self, report: &Report) -> bool {
+    fn is_late(&self, report: &ReportFields) -> bool {
         let more = match self.fault {
             Some(Fault::DelayLimit(more)) => more,
             _ => 0,
@@ -322,7 +322,7 @@ impl Register {
     }
 
     /// Neither 15 nor 16 would be given at this reading.
-    fn is_fresh(&self, report: &Report, reading: &Reading) -> bool {
+    fn is_fresh(&self, report: &ReportFields, reading: &Reading) -> bool {
         !self.is_old(report, reading) && !self.is_old_media(report, reading)
     }
 
@@ -338,7 +338,7 @@ impl Register {
     }
 
     /// (N − received) modulo 2^64.
-    fn ntp_age(&self, report: &Report, reading: &Reading) -> i128 {
+    fn ntp_age(&self, report: &ReportFields, reading: &Reading) -> i128 {
         match self.planted(Fault::NtpPlain) {
             true => i128::from(reading.ntp) - i128::from(report.received),
             false => reading.ntp.wrapping_sub(report.received).into(),
@@ -346,7 +346,7 @@ impl Register {
     }
 
     /// (R − RTP) modulo 2^32.
-    fn rtp_age(&self, report: &Report, reading: &Reading) -> i128 {
+    fn rtp_age(&self, report: &ReportFields, reading: &Reading) -> i128 {
         match self.planted(Fault::RtpPlain) {
             true => i128::from(reading.rtp) - i128::from(report.rtp),
             false => reading.rtp.wrapping_sub(report.rtp).into(),
@@ -355,7 +355,7 @@ impl Register {
 
     /// (presented − M) modulo 2^32, where M is bits 16 to 47 of received; 0 is
     /// read as 2^32.
-    fn step(&self, report: &Report) -> i128 {
+    fn step(&self, report: &ReportFields) -> i128 {
         let m = (report.received >> 16) as u32;
         match report.presented.wrapping_sub(m) {
             0 if !self.planted(Fault::StepZeroKept) => 1 << 32,
@@ -364,16 +364,16 @@ impl Register {
     }
 
     /// Received with its low 16 bits cleared, plus step × 2^16; not wrapped.
-    fn presentation(&self, report: &Report) -> i128 {
+    fn presentation(&self, report: &ReportFields) -> i128 {
         let cleared = report.received >> 16 << 16;
         i128::from(cleared) + (self.step(report) << 16)
     }
 
-    fn expanded(&self, report: &Report) -> u64 {
+    fn expanded(&self, report: &ReportFields) -> u64 {
         self.presentation(report) as u64
     }
 
-    fn delay(&self, report: &Report) -> i128 {
+    fn delay(&self, report: &ReportFields) -> i128 {
         self.presentation(report) - i128::from(report.received)
     }
 
@@ -409,7 +409,7 @@ impl Register {
 
     /// rate × (delay − NTP age) + RTP age × 2^32; in arrival mode the delay
     /// is 0.
-    fn lateness(&self, report: &Report, reading: &Reading, by_presentation: bool) -> i128 {
+    fn lateness(&self, report: &ReportFields, reading: &Reading, by_presentation: bool) -> i128 {
         let rate = i128::from(self.opening.rate);
         let delay = match by_presentation && report.p == 1 && !self.planted(Fault::DelayIgnored) {
             true => self.delay(report),

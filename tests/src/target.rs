@@ -1,12 +1,12 @@
 //! The target's property, from its definition alone: it asks no counted member
 //! for a sample earlier, and every earlier target does.
 
-use crate::members::{Choice, Reading, Record, Report, Target};
+use crate::members::{Choice, Reading, Record, ReportFields, Target};
 
 const SECOND: i128 = 1 << 32;
 
 /// Members at a reading of the sender's clock.
-pub struct Scene<'a> {
+pub struct AtReading<'a> {
     pub rate: u32,
     pub reading: Reading,
     pub members: &'a [Record],
@@ -45,7 +45,7 @@ fn asked_earlier(counted: &[Counted], lateness: i128, sample: i128) -> Option<u3
     member.map(|member| member.source)
 }
 
-impl Scene<'_> {
+impl AtReading<'_> {
     /// What the target was like, nothing where 20 is right, or what is wrong.
     /// The samples are any whole numbers past R.
     pub fn check(&self, choice: &Choice, samples: &[i128]) -> Result<Option<Seen>, String> {
@@ -142,7 +142,7 @@ fn difference(to: u64, from: u64) -> i128 {
 
 /// From the received time to the first later unit of 2^-16 s that has the short
 /// presented time; the received time's own unit is not later.
-fn delay(report: &Report) -> i128 {
+fn delay(report: &ReportFields) -> i128 {
     let received = i128::from(report.received);
     let next = received / 65_536 + 1;
     let wait = (i128::from(report.presented) - next).rem_euclid(1 << 32);

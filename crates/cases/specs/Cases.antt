@@ -78,8 +78,8 @@ target source received rtp presented counted =
     })
 
 -- the report item of a record
-abbrev pub reportOf : Record → Report
-reportOf x =
+abbrev pub reportItem : Record → Report
+reportItem x =
     record {
       sender = x .source;
       «payload_type» = x .report .«payload_type»;
@@ -92,8 +92,8 @@ reportOf x =
     }
 
 -- the settings of a target, from a sender
-abbrev pub settingsOf : ℕ → Target → Settings
-settingsOf sender x =
+abbrev pub settingsFor : ℕ → Target → Settings
+settingsFor sender x =
     record {
       sender = sender;
       media = x .media;
@@ -106,7 +106,7 @@ settingsOf sender x =
 -- what the writers leave in buffers of zeros, as long as their messages
 abbrev pub settingsBytes : ℕ → Choice → List ℕ
 settingsBytes sender (Choice.Target x) =
-    buffer (settingsAreUnwritable (settingsOf sender x)) (settingsWords (settingsOf sender x)) (replicate 36 0)
+    buffer (settingsAreUnwritable (settingsFor sender x)) (settingsWords (settingsFor sender x)) (replicate 36 0)
 settingsBytes sender (Choice.Refused number) = []
 
 abbrev pub reportBytes : Report → List ℕ
@@ -151,7 +151,7 @@ P4 =
 -- the report of P2 with payload type 33
 abbrev pub P5 : Type 0
 P5 =
-    reportBytes (reportOf twenty)
+    reportBytes (reportItem twenty)
     ≡ 0x80 ∷ 0xCF ∷ 0x00 ∷ 0x09 ∷ 0x00 ∷ 0x00 ∷ 0x00 ∷ 0x14 ∷ 0x0C ∷ 0x11 ∷ 0x00 ∷ 0x07
     ∷ 0x42 ∷ 0x00 ∷ 0x00 ∷ 0x00 ∷ 0x00 ∷ 0x00 ∷ 0x00 ∷ 0x2A ∷ 0x00 ∷ 0x00 ∷ 0x00 ∷ 0x07
     ∷ 0x00 ∷ 0x00 ∷ 0x03 ∷ 0xE6 ∷ 0x00 ∷ 0x00 ∷ 0x00 ∷ 0x00 ∷ 0x00 ∷ 0x86 ∷ 0x95 ∷ 0x20

@@ -11,14 +11,25 @@ use Rattle.idms.specs.declared.Item.{Item}
 use Rattle.idms.specs.declared.Placed.{Placed}
 use Rattle.idms.specs.declared.Field.{Field}
 
-abbrev pub bit : Bool → ℕ
-bit true = 1
-bit false = 0
+-- P as a number
+abbrev pub flag : Bool → ℕ
+flag true = 1
+flag false = 0
 
 -- a column that the item does not have holds 0
 abbrev pub cells : ℕ → Item → List ℕ
 cells place (Item.Report r) =
-    1 ∷ place ∷ r .sender ∷ r .group ∷ r .media ∷ r .received ∷ r .rtp ∷ r .presented ∷ r .«payload_type» ∷ bit (r .p) ∷ []
+    1
+    ∷ place
+    ∷ r .sender
+    ∷ r .group
+    ∷ r .media
+    ∷ r .received
+    ∷ r .rtp
+    ∷ r .presented
+    ∷ r .«payload_type»
+    ∷ flag (r .p)
+    ∷ []
 cells place (Item.Settings s) =
     2 ∷ place ∷ s .sender ∷ s .group ∷ s .media ∷ s .received ∷ s .rtp ∷ s .presented ∷ 0 ∷ 0 ∷ []
 cells place (Item.Farewell source) = 3 ∷ place ∷ source ∷ 0 ∷ 0 ∷ 0 ∷ 0 ∷ 0 ∷ 0 ∷ 0 ∷ []

@@ -7,30 +7,31 @@ use lib.ListN.{length, drop, set, length-append}
 use lib.Seq.{sets, sets-eq, length-sets}
 use native.Mathlib.Omega.{arith}
 use borrow.Author.Tests.{lt-ltb, le-ltb}
-use Rattle.idms.specs.declared.Found.{Found}
 use Rattle.idms.specs.declared.Item.{Item}
 use Rattle.idms.specs.declared.Placed.{Placed}
 use Rattle.idms.specs.declared.Refusal.{Refusal}
+use Rattle.refusals.specs.Refusals.{shortBuffer}
 use Rattle.origin.specs.declared.Origin.{Origin}
 use Rattle.register.specs.declared.Reading.{Reading}
 use Rattle.register.specs.Register.{Call}
 use Rattle.rtcp.specs.declared.cursor.Cursor.{Cursor}
 use Rattle.rtcp.specs.declared.cursor.Opened.{Opened}
 use Rattle.rtcp.specs.declared.cursor.Step.{Step}
-use Rattle.rtcp.specs.declared.walk.Count.{Count}
-use Rattle.rtcp.specs.Refusals.{Check, passed, refused}
-use Rattle.rtcp.specs.Datagram.{datagramCheck, datagramItems}
+use Rattle.datagram.specs.declared.Count.{Count}
+use Rattle.packet.specs.Checks.{Check, passed, refused}
+use Rattle.datagram.specs.Datagram.{datagramCheck, datagramItems}
 use Rattle.rtcp.specs.Cursor.{nextOf, given, start}
-use Rattle.rtcp.specs.Answers.{refusal, countOf, openedOf}
+use Rattle.datagram.specs.Answers.{refusal, itemCount}
+use Rattle.rtcp.specs.Answers.{cursorOn}
 use Rattle.rtcp.proofs.Theorems.{cursor-in-turn}
 use Rattle.table.specs.declared.Table.{Table}
 use Rattle.table.specs.declared.Taken.{Taken}
 use Rattle.table.specs.Calls.{answered}
-use Rattle.table.specs.Intake.{itemTaken, taken}
+use Rattle.table.specs.Intake.{taken}
 use Rattle.table.specs.History.{answersFrom, tableFrom}
-use Rattle.intake.specs.declared.Fed.{Fed}
-use Rattle.intake.specs.Feeding.{callsOf, callsIn, calledInto, fed, answersAfter}
-use Rattle.intake.specs.Steps.{weight, callCount, numbersOf}
+use Rattle.intake.specs.declared.DatagramAnswered.{DatagramAnswered}
+use Rattle.intake.specs.Datagrams.{callsOf, callsIn, numbersInto, datagramAnswered, answersAfter}
+use Rattle.intake.specs.Steps.{callsOfItem, callCount, numbersOf}
 
 -- ---- given: what a cursor gives, by what it gives next
 
@@ -55,7 +56,7 @@ given-none (suc k) d c h = absurd (omega arith)
 
 -- ---- callCount
 
-pub count-front : (x : Placed) (xs : List Placed) → callCount (x ∷ xs) ≡ weight (x .item) + callCount xs
+pub count-front : (x : Placed) (xs : List Placed) → callCount (x ∷ xs) ≡ callsOfItem (x .item) + callCount xs
 unfolding callCount
 count-front x xs = refl
 
@@ -63,7 +64,7 @@ pub count-none : callCount [] ≡ 0
 unfolding callCount
 count-none = refl
 
-length-calls-of : (origin : Origin) (at : Reading) (item : Item) → length (callsOf origin at item) ≡ weight item
+length-calls-of : (origin : Origin) (at : Reading) (item : Item) → length (callsOf origin at item) ≡ callsOfItem item
 length-calls-of origin at (Item.Report r) = refl
 length-calls-of origin at (Item.Farewell source) = refl
 length-calls-of origin at (Item.Settings s) = refl
@@ -94,8 +95,8 @@ calls-none origin at e = ap (callsIn origin at) e
 module _ (t : Table) (origin : Origin) (at : Reading) (calls : List Call) where
   table-item :
       (item : Item)
-      → tableFrom t (callsOf origin at item ++ calls) ≡ tableFrom (itemTaken t item origin at .table) calls
-  unfolding tableFrom
+      → tableFrom t (callsOf origin at item ++ calls) ≡ tableFrom (taken t item origin at .table) calls
+  unfolding tableFrom taken
   table-item (Item.Report r) = refl
   table-item (Item.Farewell source) = refl
   table-item (Item.Settings s) = refl
@@ -103,8 +104,8 @@ module _ (t : Table) (origin : Origin) (at : Reading) (calls : List Call) where
   answers-item :
       (item : Item)
       → answersFrom t (callsOf origin at item ++ calls)
-      ≡ numbersOf (itemTaken t item origin at .outcome) ++ answersFrom (itemTaken t item origin at .table) calls
-  unfolding answersFrom
+      ≡ numbersOf (taken t item origin at .outcome) ++ answersFrom (taken t item origin at .table) calls
+  unfolding answersFrom taken
   answers-item (Item.Report r) = refl
   answers-item (Item.Farewell source) = refl
   answers-item (Item.Settings s) = refl
@@ -112,15 +113,16 @@ module _ (t : Table) (origin : Origin) (at : Reading) (calls : List Call) where
   length-item :
       (item : Item)
       → length (callsOf origin at item ++ calls)
-      ≡ length (numbersOf (itemTaken t item origin at .outcome)) + length calls
+      ≡ length (numbersOf (taken t item origin at .outcome)) + length calls
+  unfolding taken
   length-item (Item.Report r) = omega arith
   length-item (Item.Farewell source) = omega arith
   length-item (Item.Settings s) = omega arith
 
-length-answers : (t : Table) (calls : List Call) → length (answersFrom t calls) ≡ length calls
+length-answersFrom : (t : Table) (calls : List Call) → length (answersFrom t calls) ≡ length calls
 unfolding answersFrom
-length-answers t [] = refl
-length-answers t (call ∷ calls) = ap suc (length-answers (answered t call .table) calls)
+length-answersFrom t [] = refl
+length-answersFrom t (call ∷ calls) = ap suc (length-answersFrom (answered t call .table) calls)
 
 -- ---- stores, one run behind another
 
@@ -137,54 +139,54 @@ sets-front l xs h =
     let all : 0 + length xs ≡ length xs = omega arith in
     sets-eq xs l 0 (omega arith) ∙ ap (λ (k : ℕ). xs ++ drop k l) all
 
--- ---- Feeding: what the loop keeps. `calls₀` were to be made of the table `t₀`; `calls` are left, for the table `t`,
+-- ---- CallsLeft: what the loop keeps. `calls₀` were to be made of the table `t₀`; `calls` are left, for the table `t`,
 -- and their numbers go into the list from `place` on.
 
-pub record Feeding (t₀ : Table) (answers₀ : List ℕ) (calls₀ : List Call) (t : Table) (answers : List ℕ) (place : ℕ) (calls : List Call) : Type 0 where
+pub record CallsLeft
+    (t₀ : Table) (answers₀ : List ℕ) (calls₀ : List Call)
+    (t : Table) (answers : List ℕ) (place : ℕ) (calls : List Call) : Type 0 where
   pub long : length answers ≡ length answers₀
   pub room : place + length calls ≤ length answers₀
   pub table-is : tableFrom t calls ≡ tableFrom t₀ calls₀
   pub answers-are : sets answers place (answersFrom t calls) ≡ sets answers₀ 0 (answersFrom t₀ calls₀)
 
-pub feeding-start :
+pub calls-left-start :
     {t₀ : Table} {answers₀ : List ℕ} {calls₀ : List Call} → length calls₀ ≤ length answers₀
-    → Feeding t₀ answers₀ calls₀ t₀ answers₀ 0 calls₀
-feeding-start h = record { long = refl; room = omega arith; table-is = refl; answers-are = refl }
+    → CallsLeft t₀ answers₀ calls₀ t₀ answers₀ 0 calls₀
+calls-left-start h = record { long = refl; room = omega arith; table-is = refl; answers-are = refl }
 
 module _
     {t₀ t : Table} {answers₀ answers : List ℕ} {calls₀ calls : List Call} {place : ℕ}
-    (f : Feeding t₀ answers₀ calls₀ t answers place calls) where
+    (f : CallsLeft t₀ answers₀ calls₀ t answers place calls) where
   -- an item's number has its place in the list
-  pub feeding-room :
-      (origin : Origin) (at : Reading) (x : Placed) (rest : List Call) (w : Taken)
-      → calls ≡ callsOf origin at (x .item) ++ rest → w ≡ taken t (Found.Item x) origin at
+  pub calls-left-room :
+      (origin : Origin) (at : Reading) (item : Item) (rest : List Call) (w : Taken)
+      → calls ≡ callsOf origin at item ++ rest → w ≡ taken t item origin at
       → place + length (numbersOf (w .outcome)) ≤ length answers
-  unfolding taken
-  feeding-room origin at x rest w e g =
+  calls-left-room origin at item rest w e g =
       let many : _ = ap length e in
       let numbers : _ = ap (λ (v : Taken). length (numbersOf (v .outcome))) g in
-      omega (arith, f .long, f .room, many, numbers, length-item t origin at rest (x .item))
+      omega (arith, f .long, f .room, many, numbers, length-item t origin at rest item)
 
-  pub feeding-item :
-      (origin : Origin) (at : Reading) (x : Placed) (rest : List Call) (w : Taken) (answers₁ : List ℕ) (place₁ : ℕ)
-      → calls ≡ callsOf origin at (x .item) ++ rest → w ≡ taken t (Found.Item x) origin at
+  pub calls-left-item :
+      (origin : Origin) (at : Reading) (item : Item) (rest : List Call) (w : Taken) (answers₁ : List ℕ) (place₁ : ℕ)
+      → calls ≡ callsOf origin at item ++ rest → w ≡ taken t item origin at
       → answers₁ ≡ sets answers place (numbersOf (w .outcome)) → place₁ ≡ place + length (numbersOf (w .outcome))
-      → Feeding t₀ answers₀ calls₀ (w .table) answers₁ place₁ rest
-  unfolding taken
-  feeding-item origin at x rest w answers₁ place₁ e g h k =
+      → CallsLeft t₀ answers₀ calls₀ (w .table) answers₁ place₁ rest
+  calls-left-item origin at item rest w answers₁ place₁ e g h k =
       let numbers = numbersOf (w .outcome) in
       let later = answersFrom (w .table) rest in
       let many : _ = ap length e in
       let as-many : _ = ap (λ (v : Taken). length (numbersOf (v .outcome))) g in
       let numbered : answersFrom t calls ≡ numbers ++ later =
       ap (answersFrom t) e
-      ∙ answers-item t origin at rest (x .item)
+      ∙ answers-item t origin at rest item
       ∙ ap (λ (v : Taken). numbersOf (v .outcome) ++ answersFrom (v .table) rest) (sym g) in
       record {
         long = ap length h ∙ length-sets answers place numbers ∙ f .long;
-        room = omega (arith, f .room, many, as-many, k, length-item t origin at rest (x .item));
+        room = omega (arith, f .room, many, as-many, k, length-item t origin at rest item);
         table-is = ap (λ (v : Taken). tableFrom (v .table) rest) g
-            ∙ sym (table-item t origin at rest (x .item))
+            ∙ sym (table-item t origin at rest item)
             ∙ sym (ap (tableFrom t) e)
             ∙ f .table-is;
         answers-are = ap (λ (l : List ℕ). sets l place₁ later) h
@@ -194,12 +196,12 @@ module _
             ∙ f .answers-are;
       }
 
-  pub feeding-end :
+  pub calls-left-end :
       calls ≡ [] → length calls₀ ≤ length answers₀
-      → (t ≡ tableFrom t₀ calls₀) × (answers ≡ calledInto t₀ calls₀ answers₀)
+      → (t ≡ tableFrom t₀ calls₀) × (answers ≡ numbersInto t₀ calls₀ answers₀)
   unfolding tableFrom answersFrom
-  feeding-end e h =
-      let many : length (answersFrom t₀ calls₀) ≡ length calls₀ = length-answers t₀ calls₀ in (
+  calls-left-end e h =
+      let many : length (answersFrom t₀ calls₀) ≡ length calls₀ = length-answersFrom t₀ calls₀ in (
         sym (ap (tableFrom t) e) ∙ f .table-is,
         sym (ap (λ (l : List Call). sets answers place (answersFrom t l)) e)
             ∙ f .answers-are
@@ -209,28 +211,28 @@ module _
 
 -- ---- a datagram: what opening it says of its checks and its items
 
-pub opened-items :
-    (d : List ℕ) (n : ℕ) (c : Cursor) → openedOf d ≡ Opened.Items n c
+pub cursor-items :
+    (d : List ℕ) (n : ℕ) (c : Cursor) → cursorOn d ≡ Opened.Items n c
     → (datagramCheck d ≡ passed) × (given n d c ≡ datagramItems d)
-unfolding openedOf countOf
-opened-items d n c e = go (datagramCheck d) refl
+unfolding cursorOn itemCount
+cursor-items d n c e = go (datagramCheck d) refl
   where
     go : (k : Check) → datagramCheck d ≡ k → (datagramCheck d ≡ passed) × (given n d c ≡ datagramItems d)
     go passed k =
         let o : Opened.Items (length (datagramItems d)) start ≡ Opened.Items n c = rw k at e in
         let count : length (datagramItems d) ≡ n = cc in
         let first : start ≡ c = cc in
-        let counted : countOf d ≡ Count.Items (length (datagramItems d)) = rw k refl in
+        let counted : itemCount d ≡ Count.Items (length (datagramItems d)) = rw k refl in
         (k, ap (given n d) (sym first) ∙ cursor-in-turn d (length (datagramItems d)) n counted (omega arith))
     go (refused number place) k =
         let o : Opened.Refused (refusal number place) ≡ Opened.Items n c = rw k at e in
         let z : _≡_ {A = ℕ} 0 1 = cc in
         absurd (omega arith)
 
-pub opened-refused :
-    (d : List ℕ) (r : Refusal) → openedOf d ≡ Opened.Refused r → datagramCheck d ≡ refused (r .number) (r .place)
-unfolding openedOf
-opened-refused d r e = go (datagramCheck d) refl
+pub cursor-refused :
+    (d : List ℕ) (r : Refusal) → cursorOn d ≡ Opened.Refused r → datagramCheck d ≡ refused (r .number) (r .place)
+unfolding cursorOn
+cursor-refused d r e = go (datagramCheck d) refl
   where
     go : (k : Check) → datagramCheck d ≡ k → datagramCheck d ≡ refused (r .number) (r .place)
     go passed k =
@@ -246,18 +248,18 @@ opened-refused d r e = go (datagramCheck d) refl
 
 module _ (t : Table) (d : List ℕ) (origin : Origin) (at : Reading) (answers : List ℕ) where
   -- an answer and a list are what the definitions say
-  abbrev pub Answers : Fed → List ℕ → Type 0
-  Answers r after = (r ≡ fed t d origin at answers) × (after ≡ answersAfter t d origin at answers)
+  abbrev pub Answers : DatagramAnswered → List ℕ → Type 0
+  Answers r after = (r ≡ datagramAnswered t d origin at answers) × (after ≡ answersAfter t d origin at answers)
 
-  pub fed-refused :
-      (r : Refusal) → openedOf d ≡ Opened.Refused r
+  pub answered-refused :
+      (r : Refusal) → cursorOn d ≡ Opened.Refused r
       → Answers (record { number = r .number; place = r .place; count = 0; table = t }) answers
-  unfolding fed answersAfter
-  fed-refused r e = rw (opened-refused d r e) (refl, refl)
+  unfolding datagramAnswered answersAfter
+  answered-refused r e = rw (cursor-refused d r e) (refl, refl)
 
   module _
       (n : ℕ) (c : Cursor) (count : ℕ)
-      (e : openedOf d ≡ Opened.Items n c) (h : count ≡ callCount (given n d c)) where
+      (e : cursorOn d ≡ Opened.Items n c) (h : count ≡ callCount (given n d c)) where
     -- the calls as they were counted and made, and as the definitions have them
     abbrev given-calls : List Call
     given-calls = callsIn origin at (given n d c)
@@ -266,27 +268,27 @@ module _ (t : Table) (d : List ℕ) (origin : Origin) (at : Reading) (answers : 
     calls = callsIn origin at (datagramItems d)
 
     checked : datagramCheck d ≡ passed
-    checked = opened-items d n c e .0
+    checked = cursor-items d n c e .0
 
     same-calls : given-calls ≡ calls
-    same-calls = ap (callsIn origin at) (opened-items d n c e .1)
+    same-calls = ap (callsIn origin at) (cursor-items d n c e .1)
 
     many : count ≡ length calls
     many = h ∙ sym (length-calls origin at (given n d c)) ∙ ap length same-calls
 
-    pub fed-short : length answers < count → Answers (record { number = 10; place = 0; count = 0; table = t }) answers
-    unfolding fed answersAfter
-    fed-short less =
+    pub answered-short : length answers < count → Answers (record { number = shortBuffer; place = 0; count = 0; table = t }) answers
+    unfolding datagramAnswered answersAfter
+    answered-short less =
         let short : length answers < length calls = omega (arith, many) in
         rw (checked, lt-ltb _ _ short) (refl, refl)
 
-    pub fed-all :
+    pub answered-all :
         (table : Table) (after : List ℕ) → count ≤ length answers → table ≡ tableFrom t given-calls
-        → after ≡ calledInto t given-calls answers
+        → after ≡ numbersInto t given-calls answers
         → Answers (record { number = 0; place = 0; count = count; table = table }) after
-    unfolding fed answersAfter
-    fed-all table after room f g =
+    unfolding datagramAnswered answersAfter
+    answered-all table after room f g =
         let as-many : count ≡ length calls = many in
         let table-is : table ≡ tableFrom t calls = f ∙ ap (tableFrom t) same-calls in
         let enough : length calls ≤ length answers = omega arith in
-        rw (checked, le-ltb _ _ enough) (cc, g ∙ ap (λ (l : List Call). calledInto t l answers) same-calls)
+        rw (checked, le-ltb _ _ enough) (cc, g ∙ ap (λ (l : List Call). numbersInto t l answers) same-calls)

@@ -13,46 +13,46 @@ use Rattle.idms.specs.declared.Item.{Item}
 use Rattle.idms.specs.declared.Placed.{Placed}
 use Rattle.origin.specs.declared.Origin.{Origin}
 use Rattle.register.specs.declared.Reading.{Reading}
-use Rattle.rtcp.specs.declared.walk.Count.{Count}
+use Rattle.datagram.specs.declared.Count.{Count}
 use Rattle.register.specs.Register.{Opening, Rows, Call, answer, answers, afterAll}
 use Rattle.register.specs.Promise.{AllInRange}
 use Rattle.register.proofs.History.{length-answers, answers-append, ranges-append}
 use Rattle.table.specs.declared.Table.{Table}
 use Rattle.table.specs.Calls.{answered}
-use Rattle.table.specs.Intake.{called, taken}
+use Rattle.table.specs.Intake.{callTaken, taken}
 use Rattle.table.specs.History.{answersFrom, tableFrom, Reached}
 use Rattle.table.proofs.Agreement.Theorem.{reached-further, reached-answers}
-use Rattle.rtcp.specs.Bytes.{AreBytes}
-use Rattle.rtcp.specs.Report.{reportAt}
-use Rattle.rtcp.specs.Refusals.{passed}
-use Rattle.rtcp.specs.Datagram.{datagramCheck, datagramItems}
-use Rattle.rtcp.specs.Answers.{countOf}
-use Rattle.rtcp.proofs.Laws.Bytes.{be64-bound}
-use Rattle.rtcp.proofs.Laws.Answers.{count-passed}
+use Rattle.packet.specs.Bytes.{AreBytes}
+use Rattle.packet.specs.Report.{reportAt}
+use Rattle.packet.specs.Checks.{passed}
+use Rattle.datagram.specs.Datagram.{datagramCheck, datagramItems}
+use Rattle.datagram.specs.Answers.{itemCount}
+use Rattle.packet.proofs.Laws.Bytes.{be64-bound}
+use Rattle.datagram.proofs.Laws.Answers.{datagram-passed}
 use Rattle.rtcp.proofs.Laws.ItemPlaces.{All, none, also, ReadFrom, report, setting, farewell, items-read, item-read}
 use Rattle.rtcp.proofs.Theorems.{count-bound}
-use Rattle.intake.specs.Feeding.{callsOf, callsIn, fed, answersAfter}
-use Rattle.intake.specs.Steps.{weight, callCount}
+use Rattle.intake.specs.Datagrams.{callsOf, callsIn, datagramAnswered, answersAfter}
+use Rattle.intake.specs.Steps.{callsOfItem, callCount}
 use Rattle.intake.specs.Reaching.{datagramCalls, EveryDatagram, OneMade, EveryItem}
 use Rattle.intake.proofs.Laws.{length-calls}
 
-weight-bound : (item : Item) → weight item ≤ 1
-weight-bound (Item.Report r) = omega arith
-weight-bound (Item.Farewell source) = omega arith
-weight-bound (Item.Settings s) = omega arith
+calls-of-item-bound : (item : Item) → callsOfItem item ≤ 1
+calls-of-item-bound (Item.Report r) = omega arith
+calls-of-item-bound (Item.Farewell source) = omega arith
+calls-of-item-bound (Item.Settings s) = omega arith
 
 calls-of-items : (items : List Placed) → callCount items ≤ length items
 unfolding callCount
 calls-of-items [] = omega arith
-calls-of-items (x ∷ xs) = omega (arith, weight-bound (x .item), calls-of-items xs)
+calls-of-items (x ∷ xs) = omega (arith, calls-of-item-bound (x .item), calls-of-items xs)
 
 -- As many numbers as the datagram has items are enough, and so are 512.
 pub enough-numbers :
-    (d : List ℕ) (n : ℕ) (origin : Origin) (at : Reading) → countOf d ≡ Count.Items n
+    (d : List ℕ) (n : ℕ) (origin : Origin) (at : Reading) → itemCount d ≡ Count.Items n
     → (length (callsIn origin at (datagramItems d)) ≤ n) × (n ≤ 512)
 enough-numbers d n origin at e =
     let bound : _ = count-bound d n e in
-    let items : _ = count-passed d n e in (
+    let items : _ = datagram-passed d n e in (
       omega (arith, length-calls origin at (datagramItems d), calls-of-items (datagramItems d), items .1),
       omega (arith, bound .0, bound .1),
     )
@@ -93,7 +93,7 @@ answers-behind o calls more =
 
 -- Of every datagram of bytes all calls are made, and answered as the register answers them, or none is.
 pub datagram-reached : EveryDatagram
-unfolding fed answersAfter
+unfolding datagramAnswered answersAfter
 datagram-reached o calls t rows here d h origin at lent =
     record {
       made = λ check room.
@@ -129,7 +129,7 @@ datagram-reached o calls t rows here d h origin at lent =
     }
 
 module _ (o : Opening) (calls : List Call) (t : Table) (rows : Rows) (here : Reached o calls t rows) where
-  call-made : (call : Call) → AllInRange (call ∷ []) → OneMade o calls t rows call (called t call)
+  call-made : (call : Call) → AllInRange (call ∷ []) → OneMade o calls t rows call (callTaken t call)
   unfolding tableFrom answersFrom afterAll answers
   call-made call ranges =
       let same : answered t call .number ∷ [] ≡ answer o rows call ∷ [] =
@@ -141,11 +141,10 @@ pub item-reached : EveryItem
 unfolding taken
 item-reached o calls t rows here d h index origin at =
     record {
-      report = λ place r e. rw e (made (item-in-range d origin at h (item-read d index _ e)));
-      farewell = λ place source e. rw e (made (item-in-range d origin at h (item-read d index _ e)));
-      settings = λ place s e. rw e refl;
-      refusal = λ r e. rw e refl;
+      report = λ place r e. made (item-in-range d origin at h (item-read d index _ e));
+      farewell = λ place source e. made (item-in-range d origin at h (item-read d index _ e));
+      settings = λ place s e. refl;
     }
   where
-    made : {call : Call} → AllInRange (call ∷ []) → OneMade o calls t rows call (called t call)
+    made : {call : Call} → AllInRange (call ∷ []) → OneMade o calls t rows call (callTaken t call)
     made {call} = call-made o calls t rows here call

@@ -1,3 +1,3 @@
-pub mod Feeding
+pub mod Datagrams
 pub mod Steps
 pub mod Reaching

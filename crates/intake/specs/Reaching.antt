@@ -1,20 +1,20 @@
 -- Demand 3 of the calls that take in what was read, a whole datagram (`take_datagram`) or the item at an index
 -- (`Table::intake`): from a reached table they hand back a reached one, and what they give are the register's answers.
--- To be believed besides: `callsIn` (Feeding), `recordOf` (table Intake), and what reading gives (rtcp Datagram,
--- Answers).
+-- To be believed besides: `callsIn` (Datagrams), `recordOf` (table Intake), and what reading gives (datagram Datagram
+-- with what it uses of `packet`, rtcp Answers).
 use Prim.Native.Nat.{ℕ, _≤_, _<_}
 use mathlib.Core.Path.{_≡_}
 use mathlib.Core.List.{List, [], _∷_, _++_}
 use lib.ListN.{length, drop}
 use Rattle.idms.specs.declared.Found.{Found}
 use Rattle.idms.specs.declared.Item.{Item}
-use Rattle.idms.specs.declared.Refusal.{Refusal}
 use Rattle.idms.specs.declared.Report.{Report}
 use Rattle.idms.specs.declared.Settings.{Settings}
 use Rattle.origin.specs.declared.Origin.{Origin}
-use Rattle.rtcp.specs.Refusals.{passed, refused, shortBuffer}
-use Rattle.rtcp.specs.Bytes.{AreBytes}
-use Rattle.rtcp.specs.Datagram.{datagramCheck, datagramItems}
+use Rattle.refusals.specs.Refusals.{shortBuffer}
+use Rattle.packet.specs.Checks.{passed, refused}
+use Rattle.packet.specs.Bytes.{AreBytes}
+use Rattle.datagram.specs.Datagram.{datagramCheck, datagramItems}
 use Rattle.rtcp.specs.Answers.{itemOf}
 use Rattle.register.specs.declared.Reading.{Reading}
 use Rattle.register.specs.Register.{Opening, Rows, Call, answer, after, answers, afterAll}
@@ -23,7 +23,7 @@ use Rattle.table.specs.declared.Table.{Table}
 use Rattle.table.specs.declared.Taken.{Taken}
 use Rattle.table.specs.Intake.{recordOf, taken}
 use Rattle.table.specs.History.{Reached}
-use Rattle.intake.specs.Feeding.{callsIn, fed, answersAfter}
+use Rattle.intake.specs.Datagrams.{callsIn, datagramAnswered, answersAfter}
 
 -- ---- a datagram
 
@@ -39,7 +39,7 @@ module _
   pub record AllMade : Type 0 where
     -- the table is reached by the calls before and then the datagram's
     pub reached :
-        Reached o (calls ++ datagramCalls d origin at) (fed t d origin at lent .table)
+        Reached o (calls ++ datagramCalls d origin at) (datagramAnswered t d origin at lent .table)
         (afterAll o rows (datagramCalls d origin at))
     -- the register's answers to them, which are behind those to the calls before, are put into the list; behind them
     -- it is as it was
@@ -48,20 +48,20 @@ module _
         ≡ drop (length calls) (answers o [] (calls ++ datagramCalls d origin at))
         ++ drop (length (datagramCalls d origin at)) lent
     -- there is no refusal
-    pub number : fed t d origin at lent .number ≡ 0
-    pub place : fed t d origin at lent .place ≡ 0
+    pub number : datagramAnswered t d origin at lent .number ≡ 0
+    pub place : datagramAnswered t d origin at lent .place ≡ 0
     -- how many calls were made
-    pub count : fed t d origin at lent .count ≡ length (datagramCalls d origin at)
+    pub count : datagramAnswered t d origin at lent .count ≡ length (datagramCalls d origin at)
 
   -- no call is made, and the answer is this refusal
   pub record NoneMade (refusal at-byte : ℕ) : Type 0 where
     -- the table is reached by the calls before alone
-    pub reached : Reached o calls (fed t d origin at lent .table) rows
+    pub reached : Reached o calls (datagramAnswered t d origin at lent .table) rows
     -- the list is as it was
     pub numbers : answersAfter t d origin at lent ≡ lent
-    pub number : fed t d origin at lent .number ≡ refusal
-    pub place : fed t d origin at lent .place ≡ at-byte
-    pub count : fed t d origin at lent .count ≡ 0
+    pub number : datagramAnswered t d origin at lent .number ≡ refusal
+    pub place : datagramAnswered t d origin at lent .place ≡ at-byte
+    pub count : datagramAnswered t d origin at lent .count ≡ 0
 
   -- what demand 3 says of every datagram: all of its calls are made, or none
   pub record DatagramReached : Type 0 where
@@ -81,7 +81,7 @@ EveryDatagram =
 
 -- ---- the item at an index
 
--- a table that calls reached, and what the intake makes of the reader's answer
+-- a table that calls reached, and what the intake makes of an item
 module _ (o : Opening) (calls : List Call) (t : Table) (rows : Rows) where
   -- one call is made
   pub record OneMade (call : Call) (result : Taken) : Type 0 where
@@ -90,21 +90,18 @@ module _ (o : Opening) (calls : List Call) (t : Table) (rows : Rows) where
     -- the outcome is the register's answer to it
     pub outcome : result .outcome ≡ Outcome.Number (answer o rows call)
 
-  -- what demand 3 says of every index: a report or a farewell is a call, and anything else leaves the table as it was
+  -- what demand 3 says of the item that reading gives at an index: a report or a farewell is a call, and settings leave
+  -- the table as it was
   pub record ItemReached (d : List ℕ) (index : ℕ) (origin : Origin) (at : Reading) : Type 0 where
     pub report :
         (place : ℕ) (r : Report) → itemOf d index ≡ Found.Item (record { place = place; item = Item.Report r })
-        → OneMade (Call.report (recordOf r origin) at) (taken t (itemOf d index) origin at)
+        → OneMade (Call.report (recordOf r origin) at) (taken t (Item.Report r) origin at)
     pub farewell :
         (place source : ℕ) → itemOf d index ≡ Found.Item (record { place = place; item = Item.Farewell source })
-        → OneMade (Call.farewell source origin) (taken t (itemOf d index) origin at)
+        → OneMade (Call.farewell source origin) (taken t (Item.Farewell source) origin at)
     pub settings :
         (place : ℕ) (s : Settings) → itemOf d index ≡ Found.Item (record { place = place; item = Item.Settings s })
-        → taken t (itemOf d index) origin at ≡ record { outcome = Outcome.Passed; table = t }
-    -- refused, 9 included
-    pub refusal :
-        (r : Refusal) → itemOf d index ≡ Found.Refused r
-        → taken t (itemOf d index) origin at ≡ record { outcome = Outcome.Unread r; table = t }
+        → taken t (Item.Settings s) origin at ≡ record { outcome = Outcome.Passed; table = t }
 
 -- from every reached table, of every datagram of bytes, at every index
 abbrev pub EveryItem : Type 0

@@ -1,7 +1,7 @@
 // Takes whole datagrams into a member table: every report and every farewell in it is a call, in the order of items.
-use idms::Found;
 use idms::Item;
 use origin::Origin;
+use refusals::SHORT_BUFFER;
 use register::Reading;
 use rtcp::Cursor;
 use rtcp::Opened;
@@ -16,14 +16,12 @@ ghost use lib.ListN.{length};
 ghost use lib.Seq.{sets};
 ghost use Rattle.rtcp.specs.Cursor.{given};
 ghost use Rattle.table.specs.History.{tableFrom};
-ghost use Rattle.intake.specs.Feeding.{callsIn, calledInto, fed, answersAfter};
-ghost use Rattle.intake.specs.Steps.{weight, callCount, numbersOf};
-
-const SHORT_LIST: u64 = 10;
+ghost use Rattle.intake.specs.Datagrams.{numbersInto, datagramAnswered, answersAfter};
+ghost use Rattle.intake.specs.Steps.{callsOfItem, callCount, givenCalls, numbersOf};
 
 // A refusal's number and byte place, or 0 and 0; how many calls there were; and the table afterwards.
 #[repr(C)]
-pub struct Fed {
+pub struct DatagramAnswered {
     pub number: u64,
     pub place: u64,
     pub count: u64,
@@ -31,8 +29,8 @@ pub struct Fed {
 }
 
 // How many calls an item is.
-fn weigh(item: Item) -> usize
-    ensures { λ r. ⌜ (r ≡ weight item) × (r ≤ 1) ⌝ }
+fn calls_of(item: Item) -> usize
+    ensures { λ r. ⌜ (r ≡ callsOfItem item) × (r ≤ 1) ⌝ }
 {
     match item {
         Item::Report(_) => 1,
@@ -55,7 +53,7 @@ fn count_calls(d: &[u8], n: usize, from: Cursor) -> usize
             }
             Step::Item(x, next) => {
                 let item = x.item;
-                calls += weigh(item);
+                calls += calls_of(item);
                 cursor = next;
                 left -= 1;
             }
@@ -65,7 +63,7 @@ fn count_calls(d: &[u8], n: usize, from: Cursor) -> usize
 }
 
 // Puts an outcome's number, if it has one, at a place, and answers the place behind.
-fn put(answers: &mut [u64], at: usize, outcome: Outcome) -> usize
+fn put_number(answers: &mut [u64], at: usize, outcome: Outcome) -> usize
     requires { ⌜ at + length (numbersOf outcome) ≤ length (now answers) ⌝ }
     ensures { λ r. ⌜ r ≡ at + length (numbersOf outcome) ⌝ }
     ensures { λ _. ⌜ now (answers .exit) ≡ sets (now (answers .entry)) at (numbersOf outcome) ⌝ }
@@ -76,12 +74,11 @@ fn put(answers: &mut [u64], at: usize, outcome: Outcome) -> usize
             at + 1
         }
         Outcome::Passed => at,
-        Outcome::Unread(_) => at,
     }
 }
 
 // Each of the next n items into the table, and the numbers of its calls to the front of the list.
-fn feed(
+fn make_calls(
     t: Table,
     d: &[u8],
     n: usize,
@@ -90,9 +87,10 @@ fn feed(
     at: Reading,
     answers: &mut [u64],
 ) -> Table
-    requires { ⌜ length (callsIn origin at (given n (now d) from)) ≤ length (now answers) ⌝ }
-    ensures { λ r. ⌜ r ≡ tableFrom t (callsIn origin at (given n (now (d .entry)) from)) ⌝ }
-    ensures { λ _. ⌜ now (answers .exit) ≡ calledInto t (callsIn origin at (given n (now (d .entry)) from)) (now (answers .entry)) ⌝ }
+    requires { ⌜ length (givenCalls n (now d) from origin at) ≤ length (now answers) ⌝ }
+    ensures { λ r. ⌜ r ≡ tableFrom t (givenCalls n (now (d .entry)) from origin at) ⌝ }
+    ensures { λ _. ⌜ now (answers .exit)
+        ≡ numbersInto t (givenCalls n (now (d .entry)) from origin at) (now (answers .entry)) ⌝ }
 {
     let mut table = t;
     let mut cursor = from;
@@ -104,9 +102,10 @@ fn feed(
                 return table;
             }
             Step::Item(x, next) => {
-                let taken = table.intake(Found::Item(x), origin, at);
+                let item = x.item;
+                let taken = table.intake(item, origin, at);
                 let outcome = taken.outcome;
-                place = put(answers, place, outcome);
+                place = put_number(answers, place, outcome);
                 table = taken.table;
                 cursor = next;
                 left -= 1;
@@ -117,12 +116,18 @@ fn feed(
 }
 
 // Checks and counts first: after any refusal, or where the list is shorter than the calls, all is as before.
-pub fn take_datagram(t: Table, d: &[u8], origin: Origin, at: Reading, answers: &mut [u64]) -> Fed
-    ensures { λ r. ⌜ r ≡ fed t (now (d .entry)) origin at (now (answers .entry)) ⌝ }
+pub fn take_datagram(
+    t: Table,
+    d: &[u8],
+    origin: Origin,
+    at: Reading,
+    answers: &mut [u64],
+) -> DatagramAnswered
+    ensures { λ r. ⌜ r ≡ datagramAnswered t (now (d .entry)) origin at (now (answers .entry)) ⌝ }
     ensures { λ _. ⌜ now (answers .exit) ≡ answersAfter t (now (d .entry)) origin at (now (answers .entry)) ⌝ }
 {
     match open_datagram(d) {
-        Opened::Refused(r) => Fed {
+        Opened::Refused(r) => DatagramAnswered {
             number: r.number,
             place: r.place as u64,
             count: 0,
@@ -131,18 +136,18 @@ pub fn take_datagram(t: Table, d: &[u8], origin: Origin, at: Reading, answers: &
         Opened::Items(n, cursor) => {
             let calls = count_calls(d, n, cursor);
             if answers.len() < calls {
-                return Fed {
-                    number: SHORT_LIST,
+                return DatagramAnswered {
+                    number: SHORT_BUFFER,
                     place: 0,
                     count: 0,
                     table: t,
                 };
             }
-            Fed {
+            DatagramAnswered {
                 number: 0,
                 place: 0,
                 count: calls as u64,
-                table: feed(t, d, n, cursor, origin, at, answers),
+                table: make_calls(t, d, n, cursor, origin, at, answers),
             }
         }
     }

@@ -6,10 +6,11 @@ use mathlib.Core.Bool.{Bool, true, false, _||_}
 use lib.Dec.{ltb}
 use borrow.Author.Tests.{lt-ltb, le-ltb}
 use Rattle.idms.specs.declared.Report.{Report}
+use Rattle.refusals.specs.Refusals.{outOfRange}
 use Rattle.writer.specs.declared.Written.{Written}
-use Rattle.writer.specs.Messages.{reportIsUnwritable, written, buffer}
+use Rattle.writer.specs.Messages.{reportWords, reportIsUnwritable, written, buffer}
 use Rattle.prunepocket.specs.declared.Answer.{Answer}
-use Rattle.prunepocket.specs.Messages.{reportIsOut, writeAnswer, writeAfter, Wrote}
+use Rattle.prunepocket.specs.Messages.{reportIsOut, writeAnswer, writeAfter, Wrote, WroteReport}
 
 pub out-by-payload : (p : ℕ) (r : Report) → 127 < r .«payload_type» → reportIsOut p r ≡ true
 unfolding reportIsUnwritable
@@ -22,11 +23,11 @@ out-by-payload p r h = rw (lt-ltb 127 (r .«payload_type») h) (either (ltb 1 p)
 pub out-by-p : (p : ℕ) (r : Report) → 1 < p → reportIsOut p r ≡ true
 out-by-p p r h = rw (lt-ltb 1 p h)
 
-pub out-by-fields : (p : ℕ) (r : Report) → p ≤ 1 → reportIsOut p r ≡ reportIsUnwritable r
+out-by-fields : (p : ℕ) (r : Report) → p ≤ 1 → reportIsOut p r ≡ reportIsUnwritable r
 out-by-fields p r h = rw (le-ltb 1 p h)
 
 module _ (unwritable : Bool) (words buf : List ℕ) (count : ℕ) where
-  pub wrote-nothing : unwritable ≡ true → Wrote unwritable words buf count (record { number = 11; place = 0 }) buf count
+  pub wrote-nothing : unwritable ≡ true → Wrote unwritable words buf count (record { number = outOfRange; place = 0 }) buf count
   wrote-nothing e = record { answers = rw e; bytes = rw e; counts = rw e }
 
   pub wrote :
@@ -40,3 +41,13 @@ module _ (unwritable : Bool) (words buf : List ℕ) (count : ℕ) where
         bytes = e .1;
         counts = n ∙ ap (λ (x : Written). writeAfter x count) (e .0);
       }
+
+pub wrote-report :
+    (p : ℕ) (r : Report) (buf : List ℕ) (count : ℕ) (w : Written) (answer : Answer) (buf′ : List ℕ) (count′ : ℕ)
+    → p ≤ 1
+    → (w ≡ written (reportIsUnwritable r) (reportWords r) buf)
+    × (buf′ ≡ buffer (reportIsUnwritable r) (reportWords r) buf)
+    → answer ≡ writeAnswer w → count′ ≡ writeAfter w count
+    → WroteReport p r buf count answer buf′ count′
+wrote-report p r buf count w answer buf′ count′ h e a n =
+    wrote (reportIsOut p r) (reportWords r) buf count w answer buf′ count′ (rw (out-by-fields p r h) e) a n

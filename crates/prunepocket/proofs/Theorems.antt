@@ -21,18 +21,21 @@ use Rattle.register.specs.declared.Reading.{Reading}
 use Rattle.register.specs.declared.Record.{Record}
 use Rattle.register.specs.declared.Target.{Target}
 use Rattle.register.specs.Register.{Rows, Call}
-use Rattle.rtcp.specs.declared.walk.Count.{Count}
-use Rattle.rtcp.specs.Refusals.{Check, passed, refused, DatagramNumber, shortBuffer}
-use Rattle.rtcp.specs.Datagram.{datagramCheck, datagramItems}
-use Rattle.rtcp.specs.Answers.{countOf, itemOf}
+use Rattle.datagram.specs.declared.Count.{Count}
+use Rattle.refusals.specs.Refusals.{shortBuffer, outOfRange, noneCounted}
+use Rattle.packet.specs.Checks.{Check, passed, refused}
+use Rattle.datagram.specs.Datagram.{DatagramNumber, datagramCheck, datagramItems}
+use Rattle.datagram.specs.Answers.{itemCount}
+use Rattle.rtcp.specs.Answers.{itemOf}
 use Rattle.rtcp.specs.Rows.{rowsAnswer}
 use Rattle.rtcp.proofs.Theorems.{Numbered, datagram-numbered, count-numbered, item-numbered, rows-numbered}
 use Rattle.writer.specs.declared.Written.{Written}
 use Rattle.writer.specs.Messages.{written}
 use Rattle.writer.proofs.Refusals.{written-numbered}
 use Rattle.table.specs.declared.Table.{Table}
-use Rattle.table.specs.Choose.{led, choiceAmong, choiceOf}
-use Rattle.intake.specs.Feeding.{callsIn, called, fedBy, fed}
+use Rattle.choosing.specs.Choose.{latestTarget, choiceAmong}
+use Rattle.table.specs.Choose.{choiceOf}
+use Rattle.intake.specs.Datagrams.{callsIn, callsAnswered, answeredUnless, datagramAnswered}
 use Rattle.prunepocket.specs.declared.Answer.{Answer}
 use Rattle.prunepocket.specs.Answers.{countAnswer, cellAnswer, fieldAnswer}
 use Rattle.prunepocket.specs.Messages.{writeAnswer, Wrote}
@@ -48,8 +51,8 @@ count-accepted (Count.Refused r) h = ((λ e. absurd (omega (arith, h r refl))), 
 
 -- prunepocket_count_items
 pub count-items-accepted :
-    (d : List ℕ) → (countAnswer (countOf d) .number ≡ 0) ↔ ((n : ℕ) × (countOf d ≡ Count.Items n))
-count-items-accepted d = count-accepted (countOf d) (λ r e. count-numbered d r e .0)
+    (d : List ℕ) → (countAnswer (itemCount d) .number ≡ 0) ↔ ((n : ℕ) × (itemCount d ≡ Count.Items n))
+count-items-accepted d = count-accepted (itemCount d) (λ r e. count-numbered d r e .0)
 
 -- prunepocket_read_items
 pub read-items-accepted :
@@ -90,7 +93,7 @@ item-field-accepted d index field =
 -- ---- the calls that write
 
 write-accepted :
-    (w : Written) → ((n : ℕ) → w ≡ Written.Refused n → (n ≡ 11) ⊎ (n ≡ 10))
+    (w : Written) → ((n : ℕ) → w ≡ Written.Refused n → (n ≡ outOfRange) ⊎ (n ≡ shortBuffer))
     → (writeAnswer w .number ≡ 0) ↔ ((n : ℕ) × (w ≡ Written.Bytes n))
 write-accepted (Written.Bytes n) h = ((λ e. (n, refl)), λ s. refl)
 write-accepted (Written.Refused n) h =
@@ -107,69 +110,69 @@ wrote-accepted {unwritable} {words} {buf} w =
 -- ---- a datagram taken in
 
 module _ (t : Table) (calls : List Call) (answers : List ℕ) where
-  fed-accepted :
+  answered-accepted :
       (k : Check) → Numbered k
-      → (fedBy k t calls answers .number ≡ 0) ↔ ((k ≡ passed) × (length calls ≤ length answers))
-  fed-accepted (refused number place) h =
+      → (answeredUnless k t calls answers .number ≡ 0) ↔ ((k ≡ passed) × (length calls ≤ length answers))
+  answered-accepted (refused number place) h =
       ((λ e. absurd (omega (arith, h number place refl .0))), λ s. let e : _ = s .0 in cc)
-  fed-accepted passed h = go (ltb (length answers) (length calls)) refl
+  answered-accepted passed h = go (ltb (length answers) (length calls)) refl
     where
       go :
           (b : Bool) → ltb (length answers) (length calls) ≡ b
-          → (called t calls answers .number ≡ 0) ↔ ((passed ≡ passed) × (length calls ≤ length answers))
+          → (callsAnswered t calls answers .number ≡ 0) ↔ ((passed ≡ passed) × (length calls ≤ length answers))
       go true b =
           let short : _ = ltb-true (length answers) (length calls) b in
           ((λ e. absurd (omega (arith, rw b at e))), λ s. absurd (omega (arith, s .1)))
       go false b = ((λ e. (refl, ltb-false (length answers) (length calls) b)), λ s. rw b)
 
-  fed-numbered :
+  answered-numbered :
       (k : Check) → Numbered k
-      → (fedBy k t calls answers .number ≡ 0)
-      ⊎ DatagramNumber (fedBy k t calls answers .number)
-      ⊎ (fedBy k t calls answers .number ≡ shortBuffer)
-  fed-numbered (refused number place) h = inr (inl (h number place refl))
-  fed-numbered passed h = go (ltb (length answers) (length calls)) refl
+      → (answeredUnless k t calls answers .number ≡ 0)
+      ⊎ DatagramNumber (answeredUnless k t calls answers .number)
+      ⊎ (answeredUnless k t calls answers .number ≡ shortBuffer)
+  answered-numbered (refused number place) h = inr (inl (h number place refl))
+  answered-numbered passed h = go (ltb (length answers) (length calls)) refl
     where
       go :
           (b : Bool) → ltb (length answers) (length calls) ≡ b
-          → (called t calls answers .number ≡ 0)
-          ⊎ DatagramNumber (called t calls answers .number)
-          ⊎ (called t calls answers .number ≡ shortBuffer)
+          → (callsAnswered t calls answers .number ≡ 0)
+          ⊎ DatagramNumber (callsAnswered t calls answers .number)
+          ⊎ (callsAnswered t calls answers .number ≡ shortBuffer)
       go true b = rw b (inr (inr refl))
       go false b = rw b (inl refl)
 
 -- prunepocket_take_datagram: 0 exactly where the datagram is not refused and the list is long enough
 module _ (t : Table) (d : List ℕ) (origin : Origin) (at : Reading) (answers : List ℕ) where
   pub take-datagram-accepted :
-      (fed t d origin at answers .number ≡ 0)
+      (datagramAnswered t d origin at answers .number ≡ 0)
       ↔ ((datagramCheck d ≡ passed) × (length (callsIn origin at (datagramItems d)) ≤ length answers))
-  unfolding fed
+  unfolding datagramAnswered
   take-datagram-accepted =
-      fed-accepted t (callsIn origin at (datagramItems d)) answers (datagramCheck d) (datagram-numbered d)
+      answered-accepted t (callsIn origin at (datagramItems d)) answers (datagramCheck d) (datagram-numbered d)
 
   -- else 1 to 7, or 10
   pub take-datagram-numbered :
-      (fed t d origin at answers .number ≡ 0)
-      ⊎ DatagramNumber (fed t d origin at answers .number)
-      ⊎ (fed t d origin at answers .number ≡ shortBuffer)
-  unfolding fed
+      (datagramAnswered t d origin at answers .number ≡ 0)
+      ⊎ DatagramNumber (datagramAnswered t d origin at answers .number)
+      ⊎ (datagramAnswered t d origin at answers .number ≡ shortBuffer)
+  unfolding datagramAnswered
   take-datagram-numbered =
-      fed-numbered t (callsIn origin at (datagramItems d)) answers (datagramCheck d) (datagram-numbered d)
+      answered-numbered t (callsIn origin at (datagramItems d)) answers (datagramCheck d) (datagram-numbered d)
 
 -- ---- choosing
 
-led-numbered : (late : Record → ℤ) (count : ℕ) (rows : Rows) (n : ℕ) → led late count rows ≡ Choice.Refused n → n ≡ 20
-unfolding led
-led-numbered late count [] n e = cc
-led-numbered late count (row ∷ rows) n e = let z : _≡_ {A = ℕ} 0 1 = cc in absurd (omega arith)
+latest-target-numbered : (late : Record → ℤ) (count : ℕ) (rows : Rows) (n : ℕ) → latestTarget late count rows ≡ Choice.Refused n → n ≡ noneCounted
+unfolding latestTarget
+latest-target-numbered late count [] n e = cc
+latest-target-numbered late count (row ∷ rows) n e = let z : _≡_ {A = ℕ} 0 1 = cc in absurd (omega arith)
 
 -- A choice is refused with 20 alone, for every table value.
-pub choice-numbered : (t : Table) (at : Reading) (n : ℕ) → choiceOf t at ≡ Choice.Refused n → n ≡ 20
+pub choice-numbered : (t : Table) (at : Reading) (n : ℕ) → choiceOf t at ≡ Choice.Refused n → n ≡ noneCounted
 unfolding choiceOf choiceAmong
-choice-numbered t at n e = led-numbered _ _ _ n e
+choice-numbered t at n e = latest-target-numbered _ _ _ n e
 
 followed-accepted :
-    (c : Choice) (t : Table) → ((n : ℕ) → c ≡ Choice.Refused n → n ≡ 20)
+    (c : Choice) (t : Table) → ((n : ℕ) → c ≡ Choice.Refused n → n ≡ noneCounted)
     → (followedOf c t .number ≡ 0) ↔ ((x : Target) × (c ≡ Choice.Target x))
 unfolding followedOf
 followed-accepted (Choice.Target x) t h = ((λ e. (x, refl)), λ s. refl)

@@ -4,20 +4,21 @@ use Prim.Native.Nat.{ℕ}
 use Rattle.idms.specs.Rows.{fieldOf}
 use Rattle.idms.specs.declared.Field.{Field}
 use Rattle.idms.specs.declared.Refusal.{Refusal}
-use Rattle.rtcp.specs.declared.walk.Count.{Count}
+use Rattle.datagram.specs.declared.Count.{Count}
 use Rattle.idms.specs.declared.Found.{Found}
-use Rattle.rtcp.specs.Refusals.{noSuchItem}
+use Rattle.refusals.specs.Refusals.{noSuchItem}
 use Rattle.prunepocket.specs.declared.Answer.{Answer}
 
-abbrev pub accepted : Answer
-accepted = record { number = 0; place = 0 }
+-- number 0 at place 0: the call was not refused
+abbrev pub noRefusal : Answer
+noRefusal = record { number = 0; place = 0 }
 
 abbrev pub refusalAnswer : Refusal → Answer
 refusalAnswer r = record { number = r .number; place = r .place }
 
 -- of a call that puts a count: its answer, and the count's memory afterwards
 abbrev pub countAnswer : Count → Answer
-countAnswer (Count.Items n) = accepted
+countAnswer (Count.Items n) = noRefusal
 countAnswer (Count.Refused r) = refusalAnswer r
 
 abbrev pub countAfter : Count → ℕ → ℕ
@@ -27,7 +28,7 @@ countAfter (Count.Refused r) before = before
 -- of a call that puts a field of an item: its answer, 9 at place 0 also where the item has no such field, and the
 -- field's memory afterwards
 abbrev pub cellAnswer : Field → Answer
-cellAnswer (Field.Value v) = accepted
+cellAnswer (Field.Value v) = noRefusal
 cellAnswer Field.Absent = record { number = noSuchItem; place = 0 }
 
 abbrev pub cellAfter : Field → ℕ → ℕ

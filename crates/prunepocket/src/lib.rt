@@ -7,19 +7,19 @@ use idms::Found;
 use idms::Refusal;
 use idms::Report;
 use idms::Settings;
+use refusals::NO_SUCH_ITEM;
+use refusals::OUT_OF_RANGE;
 use rtcp::Count;
 use writer::Written;
 ghost use mathlib.Core.Path.{_≡_};
 ghost use Rattle.idms.specs.Rows.{fieldOf};
-ghost use Rattle.rtcp.specs.Answers.{countOf, itemOf};
+ghost use Rattle.datagram.specs.Answers.{itemCount};
+ghost use Rattle.rtcp.specs.Answers.{itemOf};
 ghost use Rattle.rtcp.specs.Rows.{rowsAnswer, rowsAfter};
-ghost use Rattle.writer.specs.Messages.{reportWords, settingsWords, settingsAreUnwritable};
-ghost use Rattle.prunepocket.specs.Messages.{reportOf, settingsOf, reportIsOut, writeAnswer, writeAfter, Wrote};
-ghost use Rattle.prunepocket.specs.Answers.{accepted, refusalAnswer, countAnswer, countAfter, fieldAnswer, fieldAfter};
-
-const NO_SUCH_ITEM: u64 = 9;
-
-const OUT_OF_RANGE: u64 = 11;
+ghost use Rattle.prunepocket.specs.Messages.{reportOf, settingsOf, writeAnswer, writeAfter};
+ghost use Rattle.prunepocket.specs.Messages.{WroteReport, WroteSettings};
+ghost use Rattle.prunepocket.specs.Answers.{noRefusal, refusalAnswer, countAnswer, countAfter};
+ghost use Rattle.prunepocket.specs.Answers.{fieldAnswer, fieldAfter};
 
 // A refusal's number and place, or 0 and 0 where there was none.
 #[repr(C)]
@@ -30,7 +30,7 @@ pub struct Answer {
 
 // No refusal.
 fn accept() -> Answer
-    ensures { λ r. ⌜ r ≡ accepted ⌝ }
+    ensures { λ r. ⌜ r ≡ noRefusal ⌝ }
 {
     Answer {
         number: 0,
@@ -43,7 +43,7 @@ fn refuse(r: Refusal) -> Answer
     ensures { λ a. ⌜ a ≡ refusalAnswer r ⌝ }
 {
     Answer {
-        number: r.number as u64,
+        number: r.number,
         place: r.place as u64,
     }
 }
@@ -51,7 +51,8 @@ fn refuse(r: Refusal) -> Answer
 // Puts how many items a datagram has into `count`, which a refusal leaves as it was.
 #[no_mangle]
 pub extern "C" fn prunepocket_count_items(datagram: &[u8], count: &mut u64) -> Answer
-    ensures { λ r. ⌜ (r ≡ countAnswer (countOf (now (datagram .entry)))) × (now (count .exit) ≡ countAfter (countOf (now (datagram .entry))) (now (count .entry))) ⌝ }
+    ensures { λ r. ⌜ (r ≡ countAnswer (itemCount (now (datagram .entry))))
+        × (now (count .exit) ≡ countAfter (itemCount (now (datagram .entry))) (now (count .entry))) ⌝ }
 {
     match rtcp::count_items(datagram) {
         Count::Refused(r) => refuse(r),
@@ -71,7 +72,8 @@ pub extern "C" fn prunepocket_item_field(
     field: u64,
     value: &mut u64,
 ) -> Answer
-    ensures { λ r. ⌜ (r ≡ fieldAnswer (itemOf (now (datagram .entry)) index) field) × (now (value .exit) ≡ fieldAfter (itemOf (now (datagram .entry)) index) field (now (value .entry))) ⌝ }
+    ensures { λ r. ⌜ (r ≡ fieldAnswer (itemOf (now (datagram .entry)) index) field)
+        × (now (value .exit) ≡ fieldAfter (itemOf (now (datagram .entry)) index) field (now (value .entry))) ⌝ }
 {
     match rtcp::item_at(datagram, index as usize) {
         Found::Refused(r) => refuse(r),
@@ -88,16 +90,20 @@ pub extern "C" fn prunepocket_item_field(
     }
 }
 
-// Puts all items into `rows`, ten numbers each, and how many there are into `count`. A refusal leaves both as they were.
+// Puts all items into `rows`, ten numbers each, and how many there are into `count`. A refusal leaves both as they
+// were.
 #[no_mangle]
 pub extern "C" fn prunepocket_read_items(
     datagram: &[u8],
     rows: &mut [u64],
     count: &mut u64,
 ) -> Answer
-    ensures { λ r. ⌜ (r ≡ countAnswer (rowsAnswer (now (datagram .entry)) (now (rows .entry)))) × (now (rows .exit) ≡ rowsAfter (now (datagram .entry)) (now (rows .entry))) × (now (count .exit) ≡ countAfter (rowsAnswer (now (datagram .entry)) (now (rows .entry))) (now (count .entry))) ⌝ }
+    ensures { λ r. ⌜ (r ≡ countAnswer (rowsAnswer (now (datagram .entry)) (now (rows .entry))))
+        × (now (rows .exit) ≡ rowsAfter (now (datagram .entry)) (now (rows .entry)))
+        × (now (count .exit)
+        ≡ countAfter (rowsAnswer (now (datagram .entry)) (now (rows .entry))) (now (count .entry))) ⌝ }
 {
-    match rtcp::read_rows(datagram, rows) {
+    match rtcp::read_items(datagram, rows) {
         Count::Refused(r) => refuse(r),
         Count::Items(items) => {
             *count = items as u64;
@@ -126,7 +132,7 @@ fn bytes_written(w: Written, before: u64) -> u64
     }
 }
 
-// Writes a report to the front of `bytes` and puts how many bytes it took into `count`. P is 0 or 1. A refusal leaves
+// Writes a report to the front of `bytes` and puts how many bytes it took into `written`. P is 0 or 1. A refusal leaves
 // both as they were.
 #[no_mangle]
 pub extern "C" fn prunepocket_write_report(
@@ -139,9 +145,10 @@ pub extern "C" fn prunepocket_write_report(
     rtp: u32,
     presented: u32,
     bytes: &mut [u8],
-    count: &mut u64,
+    written: &mut u64,
 ) -> Answer
-    ensures { λ a. ⌜ Wrote (reportIsOut p (reportOf sender «payload_type» p group media received rtp presented)) (reportWords (reportOf sender «payload_type» p group media received rtp presented)) (now (bytes .entry)) (now (count .entry)) a (now (bytes .exit)) (now (count .exit)) ⌝ }
+    ensures { λ a. ⌜ WroteReport p (reportOf sender «payload_type» p group media received rtp presented)
+        (now (bytes .entry)) (now (written .entry)) a (now (bytes .exit)) (now (written .exit)) ⌝ }
 {
     // Checked here, before the number is cut to 8 bits and P to one.
     if 127 < payload_type {
@@ -167,12 +174,12 @@ pub extern "C" fn prunepocket_write_report(
         presented,
     };
     let w = writer::write_report(r, bytes);
-    *count = bytes_written(w, *count);
+    *written = bytes_written(w, *written);
     answer_write(w)
 }
 
-// Writes settings to the front of `bytes` and puts how many bytes they took into `count`. A refusal leaves both as they
-// were.
+// Writes settings to the front of `bytes` and puts how many bytes they took into `written`. A refusal leaves both as
+// they were.
 #[no_mangle]
 pub extern "C" fn prunepocket_write_settings(
     sender: u32,
@@ -182,9 +189,10 @@ pub extern "C" fn prunepocket_write_settings(
     rtp: u32,
     presented: u64,
     bytes: &mut [u8],
-    count: &mut u64,
+    written: &mut u64,
 ) -> Answer
-    ensures { λ a. ⌜ Wrote (settingsAreUnwritable (settingsOf sender group media received rtp presented)) (settingsWords (settingsOf sender group media received rtp presented)) (now (bytes .entry)) (now (count .entry)) a (now (bytes .exit)) (now (count .exit)) ⌝ }
+    ensures { λ a. ⌜ WroteSettings (settingsOf sender group media received rtp presented)
+        (now (bytes .entry)) (now (written .entry)) a (now (bytes .exit)) (now (written .exit)) ⌝ }
 {
     let s = Settings {
         sender,
@@ -195,6 +203,6 @@ pub extern "C" fn prunepocket_write_settings(
         presented,
     };
     let w = writer::write_settings(s, bytes);
-    *count = bytes_written(w, *count);
+    *written = bytes_written(w, *written);
     answer_write(w)
 }

@@ -1,5 +1,5 @@
 // The member table for C, which holds it by value and passes it from call to call.
-use intake::Fed;
+use intake::DatagramAnswered;
 use intake::take_datagram;
 use origin::Origin;
 use register::Choice;
@@ -7,14 +7,14 @@ use register::Reading;
 use register::Record;
 use register::Target;
 use table::Answered;
-use table::Seat;
+use table::Place;
 use table::Table;
 ghost use mathlib.Core.Path.{_≡_};
 ghost use Rattle.register.specs.Register.{Call};
-ghost use Rattle.table.specs.Members.{countOf, seatAt};
+ghost use Rattle.table.specs.Members.{memberCount, placeAt};
 ghost use Rattle.table.specs.Calls.{opened, answered};
 ghost use Rattle.table.specs.Choose.{choiceOf};
-ghost use Rattle.intake.specs.Feeding.{fed, answersAfter};
+ghost use Rattle.intake.specs.Datagrams.{datagramAnswered, answersAfter};
 ghost use Rattle.prunepocket.specs.Following.{noTarget, followedOf};
 
 // What choosing answers: 0 and the target, or a refusal's number and a target of zeros; and the table as it was.
@@ -65,8 +65,8 @@ pub extern "C" fn prunepocket_take_datagram(
     origin: Origin,
     at: Reading,
     answers: &mut [u64],
-) -> Fed
-    ensures { λ r. ⌜ r ≡ fed t (now (datagram .entry)) origin at (now (answers .entry)) ⌝ }
+) -> DatagramAnswered
+    ensures { λ r. ⌜ r ≡ datagramAnswered t (now (datagram .entry)) origin at (now (answers .entry)) ⌝ }
     ensures { λ _. ⌜ now (answers .exit) ≡ answersAfter t (now (datagram .entry)) origin at (now (answers .entry)) ⌝ }
 {
     take_datagram(t, datagram, origin, at, answers)
@@ -74,16 +74,16 @@ pub extern "C" fn prunepocket_take_datagram(
 
 // How many members there are.
 #[no_mangle]
-pub extern "C" fn prunepocket_members(t: Table) -> u32
-    ensures { λ r. ⌜ r ≡ countOf t ⌝ }
+pub extern "C" fn prunepocket_count_members(t: Table) -> u32
+    ensures { λ r. ⌜ r ≡ memberCount t ⌝ }
 {
-    t.count()
+    t.count_members()
 }
 
 // The member at a place, if there is one.
 #[no_mangle]
-pub extern "C" fn prunepocket_member_at(t: Table, place: usize) -> Seat
-    ensures { λ r. ⌜ r ≡ seatAt t place ⌝ }
+pub extern "C" fn prunepocket_member_at(t: Table, place: usize) -> Place
+    ensures { λ r. ⌜ r ≡ placeAt t place ⌝ }
 {
     t.member_at(place)
 }

@@ -1,18 +1,53 @@
-// Datagrams as a unit sends them: an RR with its source number, and behind it a report, a farewell or settings.
+// Datagrams: those of the text, and those that a unit sends, an RR and a report or a farewell. The RR's source number
+// is left 0, since no item has it.
+use crate::numbers::byte_among;
+use crate::numbers::words;
 use idms::Found;
 use idms::Report;
 use idms::Settings;
 use register::Record;
 use register::Target;
-use rtcp::Count;
+ghost use Rattle.io.specs.Counts.{Counts};
 
-// The bench's source numbers are below 256.
-fn low(source: u32) -> u8 {
-    (source % 256) as u8
+// Puts the bytes of the words of hex that stand from a place on to the front of a buffer. Answers how many.
+pub(crate) fn put_bytes(s: &[u8], at: usize, d: &mut [u8]) -> usize
+    ensures { λ r. ⌜ Counts r (now (d .exit)) ⌝ }
+{
+    let n = words(s, at) * 4;
+    let mut i = 0;
+    while i < d.len() {
+        if i == n {
+            return i;
+        }
+        d[i] = byte_among(s, at, i);
+        i += 1;
+    }
+    i
+}
+
+// Whether the words of hex from a place on are other bytes than these, as a number.
+fn other_bytes(s: &[u8], at: usize, d: &[u8]) -> u64 {
+    let mut buffer = io::buffer();
+    let n = put_bytes(s, at, &mut buffer);
+    !check::same(&buffer[..n], d) as u64
+}
+
+// Whether a report is written otherwise.
+pub(crate) fn other_report(x: Record, s: &[u8], at: usize) -> u64 {
+    let mut d = [0u8; 40];
+    writer::write_report(report_of(x), &mut d);
+    other_bytes(s, at, &d)
+}
+
+// Whether the settings that a target gives are written otherwise.
+pub(crate) fn other_settings(x: Target, sender: u32, s: &[u8], at: usize) -> u64 {
+    let mut d = [0u8; 36];
+    writer::write_settings(settings_of(x, sender), &mut d);
+    other_bytes(s, at, &d)
 }
 
 // A member's report, as the writer takes it.
-pub(crate) fn report_of(x: Record) -> Report {
+fn report_of(x: Record) -> Report {
     let r = x.report;
     Report {
         sender: x.source,
@@ -26,15 +61,25 @@ pub(crate) fn report_of(x: Record) -> Report {
     }
 }
 
-// The settings that a target gives, from sender 1.
-pub(crate) fn settings_of(x: Target) -> Settings {
+// The settings that a target gives.
+fn settings_of(x: Target, sender: u32) -> Settings {
     Settings {
-        sender: 1,
+        sender,
         media: x.media,
         group: x.group,
         received: x.received,
         rtp: x.rtp,
         presented: x.presented,
+    }
+}
+
+// One of the four bytes of a number, the highest first.
+fn byte_of(n: u32, place: u32) -> u8 {
+    match place {
+        0 => (n / 16777216) as u8,
+        1 => (n / 65536 % 256) as u8,
+        2 => (n / 256 % 256) as u8,
+        _ => (n % 256) as u8,
     }
 }
 
@@ -44,7 +89,6 @@ fn report_datagram(x: Record) -> [u8; 48] {
     d[0] = 0x80;
     d[1] = 201;
     d[3] = 1;
-    d[7] = low(x.source);
     writer::write_report(report_of(x), &mut d[8..]);
     d
 }
@@ -54,30 +98,12 @@ pub(crate) fn read_report(x: Record) -> Found {
     rtcp::item_at(&d, 0)
 }
 
-pub(crate) fn count_report(x: Record) -> Count {
-    let d = report_datagram(x);
-    rtcp::count_items(&d)
-}
-
-// An RR, and a BYE packet of one source.
+// The item of an RR and a BYE packet of one source.
 pub(crate) fn read_farewell(source: u32) -> Found {
-    let s = low(source);
-    let d = [0x80, 201, 0, 1, 0, 0, 0, s, 0x81, 203, 0, 1, 0, 0, 0, s];
-    rtcp::item_at(&d, 0)
-}
-
-// An RR of source 1, and the settings packet of 36 bytes that the writer makes.
-fn settings_datagram(s: Settings) -> [u8; 44] {
-    let mut d = [0u8; 44];
-    d[0] = 0x80;
-    d[1] = 201;
-    d[3] = 1;
-    d[7] = 1;
-    writer::write_settings(s, &mut d[8..]);
-    d
-}
-
-pub(crate) fn read_settings(s: Settings) -> Found {
-    let d = settings_datagram(s);
+    let a = byte_of(source, 0);
+    let b = byte_of(source, 1);
+    let c = byte_of(source, 2);
+    let e = byte_of(source, 3);
+    let d = [0x80, 201, 0, 1, 0, 0, 0, 0, 0x81, 203, 0, 1, a, b, c, e];
     rtcp::item_at(&d, 0)
 }

@@ -1,36 +1,247 @@
-// The receiving bench: the papers' cases and the twins of the letter on the member table, told in plain words. Each
-// answer is compared with the papers', and the last line says how many were as expected.
-mod bench;
-mod clocks;
-mod compare;
+// The receiving bench: runs the scenes of a text on the member table, prints what came of each step, and compares it
+// with what the text expects. The last line says how many answers were as expected.
+//
+// A line that starts with two spaces is a step; every other line is printed as it stands, and so is a step without an
+// answer. A step that is not understood counts as an answer that was not expected. Words stand apart by one space.
+//
+//   table                                        a new table for group 42, media source 7, rate 90000, and the reading
+//                                                N = 1000 s, R = 9000000
+//   open GROUP MEDIA RATE = NUMBER               a table, which is used from then on where the number is 0
+//   reading TIME RTP                             the reading of the steps behind it
+//   stream GROUP MEDIA                           the group and media source of the reports behind it
+//   report SOURCE ORIGIN RECEIVED RTP PRESENTED = NUMBER
+//   farewell SOURCE ORIGIN = NUMBER
+//   send report .. = NUMBER                      the same by a datagram: behind an RR, read and taken in
+//   send farewell .. = NUMBER
+//   fill FIRST LAST = NUMBER                     each of these sources sends P1's report from 192.0.2.1, port 5000 more
+//                                                than its number; the last number that is not 0, or 0
+//   sweep = NUMBER
+//   datagram HEX..                               the datagram of the steps behind it
+//   take ORIGIN = NUMBER.. | none | refused NUMBER PLACE
+//   items = COUNT | refused NUMBER PLACE
+//   item INDEX = report SOURCE | settings SOURCE | farewell SOURCE | refused NUMBER PLACE
+//   choose = SOURCE RECEIVED RTP PRESENTED COUNTED | refused NUMBER
+//   lateness = N                                 of the target, N x 2^32, at a rate of 90000
+//   age = TIME                                   of the target's received time
+//   delay = TIME                                 of the target
+//   members = COUNT
+//   place INDEX = SOURCE ORIGIN | free
+//   unchanged                                    members and target are as before the last call
+//   write report = HEX..                         the last report, as the writer writes it
+//   write settings SENDER = HEX..                the target's settings, as the writer writes them
+//
+// A number is decimal, or hex behind 0x, and has 32 bits. A TIME is SECONDS or SECONDS+UNITS, in units of 2^-32 s; so
+// are RECEIVED and a target's PRESENTED. A report's PRESENTED is the field. - as PRESENTED is P 0, or arrival mode. An
+// ORIGIN is ADDRESS:PORT, the address four decimal numbers with dots or 32 hex digits. HEX is eight hex digits. A
+// datagram that is taken in has at most seven answers.
+mod calls;
 mod datagrams;
-mod full;
-mod limits;
+mod forms;
+mod items;
+mod lines;
+mod looks;
 mod measures;
-mod messages;
-mod papers;
-mod steps;
-mod twins;
-mod units;
-mod wire;
-mod words;
+mod numbers;
+mod print;
+mod scene;
+mod text;
 
-use crate::words::text;
+use crate::calls::Told;
+use crate::calls::call;
+use crate::calls::read_datagram;
+use crate::forms::DATAGRAM;
+use crate::forms::ITEM_REFUSED;
+use crate::forms::ITEMS;
+use crate::forms::OPEN;
+use crate::forms::PROSE;
+use crate::forms::READING;
+use crate::forms::REPORT;
+use crate::forms::STREAM;
+use crate::forms::SWEEP;
+use crate::forms::TABLE;
+use crate::forms::TAKE;
+use crate::forms::UNCHANGED;
+use crate::forms::matched;
+use crate::forms::print_came;
+use crate::lines::Line;
+use crate::lines::same_line;
+use crate::lines::started;
+use crate::looks::look;
+use crate::looks::unchanged;
+use crate::numbers::NOWHERE;
+use crate::print::AS_EXPECTED;
+use crate::print::BENCH;
+use crate::print::EXPECTED;
+use crate::print::LINE;
+use crate::print::NOT_UNDERSTOOD;
+use crate::print::OF;
+use crate::print::print_number;
+use crate::print::say;
+use crate::print::say_either;
+use crate::scene::Scene;
+use crate::scene::first_record;
+use crate::scene::record_behind;
+use crate::scene::scene_behind;
+use crate::scene::usual;
+use crate::text::byte_at;
+use crate::text::forward;
+use crate::text::line_end;
+use crate::text::print_part;
+use libc::STDIN_FILENO;
+use libc::STDOUT_FILENO;
+use register::Record;
+use table::Table;
 
-fn preface() {
-    text(
-        b"Receiving bench: group 42, media source 7, clock rate 90000. Each case has a table of its own.\n",
-    );
-    text(b"Unless stated, the sender's reading is N = 1000 s, R = 9000000. ");
-    text(b"Times are printed to thousandths and compared in full.\n");
+// How many answers were compared, and how many of them were as expected.
+struct Tally {
+    compared: u64,
+    expected: u64,
+}
+
+// What a line gave: the answer that was expected, another, or none to compare.
+const RIGHT: u64 = 0;
+
+const WRONG: u64 = 1;
+
+const NOTHING: u64 = 2;
+
+// A table for the papers' group, media source and rate.
+fn usual_table() -> Table {
+    let opening = Table::open(42, 7, 90000);
+    opening.table
+}
+
+fn end_line() {
+    io::write_all(STDOUT_FILENO, b"\n");
+}
+
+// The line at a place: a step where it starts with two spaces, and otherwise prose.
+fn line_at(s: &[u8], at: usize) -> Line {
+    if byte_at(s, at) == b' ' {
+        if byte_at(s, forward(at, 1)) == b' ' {
+            return matched(s, forward(at, 2));
+        }
+    }
+    started(PROSE, at)
+}
+
+// The table after a line, and the line with what came.
+fn told(table: Table, earlier: Table, line: Line, scene: Scene, record: Record, s: &[u8]) -> Told {
+    let form = line.form;
+    let origin = line.origin;
+    match form {
+        TABLE => Told {
+            table: usual_table(),
+            line,
+        },
+        READING | STREAM | DATAGRAM | PROSE => Told { table, line },
+        UNCHANGED => Told {
+            table,
+            line: unchanged(table, earlier, scene, origin),
+        },
+        OPEN..=SWEEP => call(table, line, scene),
+        TAKE..=ITEM_REFUSED => read_datagram(table, line, scene, s),
+        _ => Told {
+            table,
+            line: look(table, line, scene, record, s),
+        },
+    }
+}
+
+// The table before the last call. A new table is none, nor is a setting of the scene.
+fn kept(earlier: Table, table: Table, form: usize) -> Table {
+    if form < REPORT {
+        return earlier;
+    }
+    if form < ITEMS { table } else { earlier }
+}
+
+fn not_understood(number: usize) -> u64 {
+    say(LINE);
+    print_number(forward(number, 1) as u64);
+    say(NOT_UNDERSTOOD);
+    end_line();
+    WRONG
+}
+
+fn as_it_stands(s: &[u8], at: usize) -> u64 {
+    print_part(s, at, line_end(s, at));
+    end_line();
+    NOTHING
+}
+
+// Prints what came, and whether it is what the text expects.
+fn compared(line: Line, came: Line) -> u64 {
+    let other = !same_line(line, came) as u64;
+    print_came(came);
+    say_either(other, EXPECTED);
+    end_line();
+    other
+}
+
+// Prints a line whose number counts from 0. Without an answer it is printed as it stands.
+fn printed(line: Line, came: Line, s: &[u8], at: usize, number: usize) -> u64 {
+    if line.at == NOWHERE {
+        return not_understood(number);
+    }
+    if line.form < OPEN || line.form == PROSE {
+        return as_it_stands(s, at);
+    }
+    compared(line, came)
+}
+
+fn tallied(tally: Tally, outcome: u64) -> Tally {
+    let compared = std::num::wrapping_add_u64(tally.compared, 1);
+    match outcome {
+        RIGHT => Tally {
+            compared,
+            expected: std::num::wrapping_add_u64(tally.expected, 1),
+        },
+        WRONG => Tally {
+            compared,
+            expected: tally.expected,
+        },
+        _ => tally,
+    }
+}
+
+fn ended(tally: Tally) {
+    say(BENCH);
+    print_number(tally.expected);
+    say(OF);
+    print_number(tally.compared);
+    say(AS_EXPECTED);
+    end_line();
+}
+
+fn run(s: &[u8]) {
+    let mut table = usual_table();
+    let mut earlier = table;
+    let mut scene = usual(NOWHERE);
+    let mut record = first_record(0);
+    let mut tally = Tally {
+        compared: 0,
+        expected: 0,
+    };
+    let mut at = 0;
+    for number in 0..s.len() {
+        if s.len() <= at {
+            break;
+        }
+        let line = line_at(s, at);
+        let told = told(table, earlier, line, scene, record, s);
+        tally = tallied(tally, printed(line, told.line, s, at, number));
+        earlier = kept(earlier, table, line.form);
+        table = told.table;
+        record = record_behind(record, scene, line);
+        scene = scene_behind(scene, told.line);
+        at = forward(line_end(s, at), 1);
+    }
+    ended(tally);
 }
 
 fn main() {
-    preface();
-    let a = limits::cases(papers::cases(bench::started()));
-    let b = twins::scene(a);
-    let c = full::scene(b);
-    let d = wire::without_items(c);
-    let e = wire::to_the_table(d);
-    bench::ended(clocks::scene(e));
+    let mut text = io::large_buffer();
+    let n = io::read_full(STDIN_FILENO, &mut text);
+    run(&text[..n]);
 }

@@ -1,22 +1,14 @@
-// What the papers say of a target beyond its fields: lateness, delay and age.
-use crate::bench::Bench;
-use crate::bench::judged;
-use crate::words::number;
-use crate::words::text;
-use crate::words::time as print_time;
+// What the papers say of a target beyond its fields: lateness and delay.
 use register::Choice;
 use register::Reading;
 use register::Target;
-use table::Table;
 use times::ntp_age;
 use times::rtp_age;
 ghost use Prim.Native.Nat.{_≤_};
 
 // The target, or one of zeros where choosing is refused.
-pub(crate) fn target_at(t: Table, at: Reading) -> Target {
-    let chosen = t.choose(at);
-    let c = chosen.choice;
-    let Choice::Target(x) = c else {
+pub(crate) fn target_of(choice: Choice) -> Target {
+    let Choice::Target(x) = choice else {
         return Target {
             source: 0,
             group: 0,
@@ -44,25 +36,11 @@ fn least(n: u64, most: u64) -> u64
     if n < most { n } else { most }
 }
 
-// Lateness of a target's three times at a rate of 90,000, where it is not below 0. Those of a fresh report are within the
-// bounds.
-fn late_by(x: Target, at: Reading) -> u64 {
+// Lateness of a target's three times at a rate of 90,000, where it is not below 0. Those of a fresh report are within
+// the bounds.
+pub(crate) fn lateness(x: Target, at: Reading) -> u64 {
     let delay = least(delay_of(x), 128849018880);
     let age = least(ntp_age(at.ntp, x.received), 128849018880);
     let ticks = least(rtp_age(at.rtp, x.rtp) as u64, 5400000);
     std::num::wrapping_sub_u64(90000 * delay + ticks * 4294967296, 90000 * age)
-}
-
-// The lateness is this many ticks of the media clock.
-pub(crate) fn lateness(b: Bench, at: Reading, expected: u32) -> Bench {
-    let late = late_by(target_at(b.table, at), at);
-    number(b"  lateness of the target: ", late / 4294967296);
-    text(b" x 2^32");
-    judged(b, late == (expected as u64) * 4294967296)
-}
-
-// A length of time.
-pub(crate) fn span(b: Bench, words: &[u8], came: u64, expected: u64) -> Bench {
-    print_time(words, came);
-    judged(b, came == expected)
 }

@@ -2,7 +2,8 @@
 -- what a permutation keeps, and of the rows chosen any two precede each other, so that there is one at most.
 use Prim.Native.Nat.{ℕ, _≤_}
 use mathlib.Core.Bool.{Bool, true, false, not, cond, _&&_, and-eq-true-iff}
-use mathlib.Core.List.{[], _∷_, List·Memᴰ, List·Memᴰ·head, List·Memᴰ·tail, List·Permᴰ, List·Permᴰ·nil, List·Permᴰ·cons, List·Permᴰ·swap, List·Permᴰ·trans, Permᴰ·refl, Permᴰ·symm}
+use mathlib.Core.List.{[], _∷_, List·Memᴰ, List·Memᴰ·head, List·Memᴰ·tail, List·Permᴰ, List·Permᴰ·nil, List·Permᴰ·cons}
+use mathlib.Core.List.{List·Permᴰ·swap, List·Permᴰ·trans, Permᴰ·refl, Permᴰ·symm}
 use mathlib.Core.Path.{_≡_, refl, ap, _∙_}
 use lib.Dec.{eqb}
 use lib.IntN.{ℤ}
@@ -11,24 +12,28 @@ use native.Mathlib.Omega.{arith}
 use borrow.Author.Tests.{eqb-true, eq-eqb}
 use Rattle.register.specs.declared.Record.{Record}
 use Rattle.register.specs.declared.Reading.{Reading}
-use Rattle.register.specs.Register.{presents, Opening, Rows, Call, keep, some, hasNumber, isHeldElsewhere, hasNoRoom, renewed, reportChecks, farewellChecks, answer, freshAt, accepted, after}
+use Rattle.register.specs.Register.{presents, Opening, Rows, Call, filter, any, hasNumber, isHeldElsewhere}
+use Rattle.register.specs.Register.{hasNoRoom, renewed, reportChecks, farewellChecks, answer, freshAt, accepted}
+use Rattle.register.specs.Register.{after}
 use Rattle.register.specs.Choosing.{fresh, isArrival, counted, latenessOf, precedes, precedesAll, firstOf, choice}
 use Rattle.register.specs.Promise.{Unique}
 use Rattle.register.proofs.Order.{precedes-true}
-use Rattle.register.proofs.Unique.{unique-permuted, unique-keep, unique-rest, none-after}
-use Rattle.register.proofs.Rows.{keep-yes, keep-no, length-permuted, some-permuted, keep-permuted, cond-permuted, short-permuted, some-keep, keep-cong, keep-not-none, keep-all, kept-member}
+use Rattle.register.proofs.Unique.{unique-permuted, unique-filter, unique-rest, none-after}
+use Rattle.register.proofs.Rows.{filter-yes, filter-no, length-permuted, any-permuted, filter-permuted}
+use Rattle.register.proofs.Rows.{cond-permuted, short-permuted, any-filter, filter-cong, filter-not-none}
+use Rattle.register.proofs.Rows.{filter-all, kept-member}
 
 -- ---- calls
 
 -- the rows of other numbers
 abbrev others : Record → Rows → Rows
-others x rows = keep (λ row. not (hasNumber (x .source) row)) rows
+others x rows = filter (λ row. not (hasNumber (x .source) row)) rows
 
 -- the rows that an accepted report leaves are its own before those of other numbers
 pub renewed-form :
     (rows : Rows) → Unique rows → (x : Record) →
-    List·Permᴰ (renewed rows x) (x ∷ keep (λ row. not (hasNumber (x .source) row)) rows)
-unfolding renewed keep
+    List·Permᴰ (renewed rows x) (x ∷ filter (λ row. not (hasNumber (x .source) row)) rows)
+unfolding renewed filter
 renewed-form [] u x = Permᴰ·refl (x ∷ [])
 renewed-form (r ∷ rows) u x = go (hasNumber (x .source) r) refl (renewed-form rows (unique-rest r rows u) x)
   where
@@ -36,24 +41,24 @@ renewed-form (r ∷ rows) u x = go (hasNumber (x .source) r) refl (renewed-form 
         (t : Bool) → hasNumber (x .source) r ≡ t → List·Permᴰ (renewed rows x) (x ∷ others x rows) →
         List·Permᴰ (cond t (x ∷ rows) (r ∷ renewed rows x)) (x ∷ cond (not t) (r ∷ others x rows) (others x rows))
     go true e rest =
-        rw (some-keep (hasNumber (x .source)) rows (none-after (x .source) r rows u e)) (Permᴰ·refl (x ∷ rows))
+        rw (any-filter (hasNumber (x .source)) rows (none-after (x .source) r rows u e)) (Permᴰ·refl (x ∷ rows))
     go false e rest = List·Permᴰ·trans (List·Permᴰ·cons refl rest) (List·Permᴰ·swap refl refl)
 
 pub answer-permuted :
     (o : Opening) (call : Call) {rows rows′ : Rows} → List·Permᴰ rows rows′ → answer o rows call ≡ answer o rows′ call
 unfolding answer
 answer-permuted o (Call.report x at) {rows} {rows′} d =
-    let held : _ = some-permuted (hasNumber (x .source)) d in
+    let held : _ = any-permuted (hasNumber (x .source)) d in
     let elsewhere : isHeldElsewhere rows (x .source) (x .origin) ≡ isHeldElsewhere rows′ (x .source) (x .origin) =
-    some-permuted _ d in
-    let noRoom : hasNoRoom rows (x .source) ≡ hasNoRoom rows′ (x .source) =
+    any-permuted _ d in
+    let full : hasNoRoom rows (x .source) ≡ hasNoRoom rows′ (x .source) =
     ap (λ (t : Bool). not t && eqb (length rows) 64) held
-    ∙ ap (λ (n : ℕ). not (some (hasNumber (x .source)) rows′) && eqb n 64) (length-permuted d) in
+    ∙ ap (λ (n : ℕ). not (any (hasNumber (x .source)) rows′) && eqb n 64) (length-permuted d) in
     ap (λ (t : Bool). reportChecks o x at t (hasNoRoom rows (x .source))) elsewhere
-    ∙ ap (reportChecks o x at (isHeldElsewhere rows′ (x .source) (x .origin))) noRoom
+    ∙ ap (reportChecks o x at (isHeldElsewhere rows′ (x .source) (x .origin))) full
 answer-permuted o (Call.farewell source origin) {rows} {rows′} d =
-    ap (λ (t : Bool). farewellChecks t (isHeldElsewhere rows source origin)) (some-permuted (hasNumber source) d)
-    ∙ ap (farewellChecks (some (hasNumber source) rows′)) (some-permuted _ d)
+    ap (λ (t : Bool). farewellChecks t (isHeldElsewhere rows source origin)) (any-permuted (hasNumber source) d)
+    ∙ ap (farewellChecks (any (hasNumber source) rows′)) (any-permuted _ d)
 answer-permuted o (Call.sweep at) d = refl
 
 accepted-permuted :
@@ -63,10 +68,10 @@ accepted-permuted o (Call.report x at) {rows} {rows′} d u =
     List·Permᴰ·trans
     (renewed-form rows u x)
     (List·Permᴰ·trans
-    (List·Permᴰ·cons refl (keep-permuted (λ row. not (hasNumber (x .source) row)) d))
+    (List·Permᴰ·cons refl (filter-permuted (λ row. not (hasNumber (x .source) row)) d))
     (Permᴰ·symm (renewed-form rows′ (unique-permuted d u) x)))
-accepted-permuted o (Call.farewell source origin) d u = keep-permuted (λ row. not (hasNumber source row)) d
-accepted-permuted o (Call.sweep at) d u = keep-permuted (freshAt o at) d
+accepted-permuted o (Call.farewell source origin) d u = filter-permuted (λ row. not (hasNumber source row)) d
+accepted-permuted o (Call.sweep at) d u = filter-permuted (freshAt o at) d
 
 pub after-permuted :
     (o : Opening) (call : Call) {rows rows′ : Rows} → List·Permᴰ rows rows′ → Unique rows →
@@ -79,21 +84,21 @@ after-permuted o call {rows} {rows′} d u =
 unique-first : (x : Record) (rows : Rows) → Unique rows → Unique (x ∷ others x rows)
 unique-first x rows u source = go (hasNumber source x) refl
   where
-    go : (t : Bool) → hasNumber source x ≡ t → length (keep (hasNumber source) (x ∷ others x rows)) ≤ 1
+    go : (t : Bool) → hasNumber source x ≡ t → length (filter (hasNumber source) (x ∷ others x rows)) ≤ 1
     go true e =
         let same : x .source ≡ source = eqb-true (x .source) source e in
-        let none : keep (hasNumber source) (others x rows) ≡ [] =
-        rw (← same) (keep-not-none (hasNumber (x .source)) rows) in
-        omega (arith, ap length (keep-yes (hasNumber source) x (others x rows) e), ap length none)
+        let none : filter (hasNumber source) (others x rows) ≡ [] =
+        rw (← same) (filter-not-none (hasNumber (x .source)) rows) in
+        omega (arith, ap length (filter-yes (hasNumber source) x (others x rows) e), ap length none)
     go false e =
-        let short : _ = unique-keep (λ row. not (hasNumber (x .source) row)) rows u source in
-        omega (arith, short, ap length (keep-no (hasNumber source) x (others x rows) e))
+        let short : _ = unique-filter (λ row. not (hasNumber (x .source) row)) rows u source in
+        omega (arith, short, ap length (filter-no (hasNumber source) x (others x rows) e))
 
 unique-accepted : (o : Opening) (call : Call) (rows : Rows) → Unique rows → Unique (accepted o rows call)
 unique-accepted o (Call.report x at) rows u =
     unique-permuted (Permᴰ·symm (renewed-form rows u x)) (unique-first x rows u)
-unique-accepted o (Call.farewell source origin) rows u = unique-keep (λ row. not (hasNumber source row)) rows u
-unique-accepted o (Call.sweep at) rows u = unique-keep (freshAt o at) rows u
+unique-accepted o (Call.farewell source origin) rows u = unique-filter (λ row. not (hasNumber source row)) rows u
+unique-accepted o (Call.sweep at) rows u = unique-filter (freshAt o at) rows u
 
 unique-cond : (t : Bool) (xs ys : Rows) → Unique xs → Unique ys → Unique (cond t xs ys)
 unique-cond true xs ys u v = u
@@ -149,20 +154,20 @@ one-number-short :
     length rows ≤ 1
 one-number-short [] u same = omega arith
 one-number-short (a ∷ rows) u same =
-    let all : keep (hasNumber (a .source)) (a ∷ rows) ≡ a ∷ rows =
-    keep-all (hasNumber (a .source)) (a ∷ rows)
+    let all : filter (hasNumber (a .source)) (a ∷ rows) ≡ a ∷ rows =
+    filter-all (hasNumber (a .source)) (a ∷ rows)
     (λ b m. eq-eqb (b .source) (a .source) (same a b (List·Memᴰ·head refl) m)) in
     omega (arith, u (a .source), ap length all)
 
 -- the rows of a list that precede each of it
 abbrev first : (Record → ℤ) → Rows → Rows
-first late rows = keep (λ row. precedesAll late row rows) rows
+first late rows = filter (λ row. precedesAll late row rows) rows
 
 first-short : (late : Record → ℤ) (rows : Rows) → Unique rows → length (first late rows) ≤ 1
 first-short late rows u =
     one-number-short
     (first late rows)
-    (unique-keep (λ row. precedesAll late row rows) rows u)
+    (unique-filter (λ row. precedesAll late row rows) rows u)
     (λ a b m n.
     let foundA : _ = kept-member (λ row. precedesAll late row rows) a rows m in
     let foundB : _ = kept-member (λ row. precedesAll late row rows) b rows n in
@@ -173,8 +178,8 @@ first-short late rows u =
 first-permuted :
     (late : Record → ℤ) {rows rows′ : Rows} → List·Permᴰ rows rows′ → Unique rows → first late rows ≡ first late rows′
 first-permuted late {rows} {rows′} d u =
-    short-permuted (keep-permuted (λ row. precedesAll late row rows) d) (first-short late rows u)
-    ∙ keep-cong
+    short-permuted (filter-permuted (λ row. precedesAll late row rows) d) (first-short late rows u)
+    ∙ filter-cong
     (λ row. precedesAll late row rows)
     (λ row. precedesAll late row rows′)
     rows′
@@ -183,7 +188,7 @@ first-permuted late {rows} {rows′} d u =
 pub arrival-permuted :
     (o : Opening) (at : Reading) {rows rows′ : Rows} → List·Permᴰ rows rows′ →
     isArrival o at rows ≡ isArrival o at rows′
-arrival-permuted o at d = ap not (some-permuted presents (keep-permuted (freshAt o at) d))
+arrival-permuted o at d = ap not (any-permuted presents (filter-permuted (freshAt o at) d))
 
 pub counted-permuted :
     (o : Opening) (at : Reading) {rows rows′ : Rows} → List·Permᴰ rows rows′ →
@@ -192,18 +197,18 @@ counted-permuted o at {rows} {rows′} d =
     rw (arrival-permuted o at d)
     (cond-permuted
     (isArrival o at rows′)
-    (keep-permuted (freshAt o at) d)
-    (keep-permuted presents (keep-permuted (freshAt o at) d)))
+    (filter-permuted (freshAt o at) d)
+    (filter-permuted presents (filter-permuted (freshAt o at) d)))
 
 pub unique-counted : (o : Opening) (at : Reading) (rows : Rows) → Unique rows → Unique (counted o at rows)
 unique-counted o at rows u =
-    let freshOnes : Unique (fresh o at rows) = unique-keep (freshAt o at) rows u in
+    let freshOnes : Unique (fresh o at rows) = unique-filter (freshAt o at) rows u in
     unique-cond
     (isArrival o at rows)
     (fresh o at rows)
-    (keep presents (fresh o at rows))
+    (filter presents (fresh o at rows))
     freshOnes
-    (unique-keep presents (fresh o at rows) freshOnes)
+    (unique-filter presents (fresh o at rows) freshOnes)
 
 pub choice-permuted :
     (o : Opening) (at : Reading) {rows rows′ : Rows} → List·Permᴰ rows rows′ → Unique rows →

@@ -1,7 +1,7 @@
 -- Choosing keeps demand 3's promise on sound rows: the chosen row's lateness is the greatest of the counted rows', and
 -- the three times answered give it back.
 use Prim.Native.Nat.{ℕ, _*_, _^_, _<_}
-use mathlib.Core.Bool.{Bool, true, false, cond, _||_, true≢false}
+use mathlib.Core.Bool.{Bool, true, false, cond, true≢false}
 use mathlib.Core.List.{[], _∷_, List·Memᴰ, List·Memᴰ·head, List·Memᴰ·tail, List·Memᴰ·not-nil}
 use mathlib.Core.Path.{_≡_, refl, sym, ap, subst}
 use lib.Dec.{eqb, ltb}
@@ -9,15 +9,17 @@ use lib.IntN.{ℤ, pos, _*ℤ_, +ℤ-idr}
 use lib.ListN.{length}
 use lib.Signed.{_≤ℤ_}
 use native.Mathlib.Omega.{arith}
-use Rattle.times.specs.Times.{minus, delay, expanded, isBadlyPresented}
+use Rattle.refusals.specs.Refusals.{noneCounted}
+use Rattle.times.specs.Times.{differenceMod, delay, expanded, isBadlyPresented}
 use Rattle.times.proofs.Laws.{expanded-by-delay, delay-bound}
 use Rattle.register.specs.declared.Record.{Record}
 use Rattle.register.specs.declared.Reading.{Reading}
 use Rattle.register.specs.declared.Choice.{Choice}
-use Rattle.register.specs.Register.{presents, Opening, Rows, keep, some, freshAt}
-use Rattle.register.specs.Choosing.{fresh, isArrival, counted, latenessOf, precedes, precedesAll, targetOf, firstOf, choice, delayBetween, targetLateness, moment}
+use Rattle.register.specs.Register.{presents, Opening, Rows, filter, any, freshAt}
+use Rattle.register.specs.Choosing.{fresh, isArrival, counted, latenessOf, precedes, precedesAll, targetOf}
+use Rattle.register.specs.Choosing.{firstOf, choice, delayBetween, targetLateness, moment}
 use Rattle.register.specs.Promise.{Promised}
-use Rattle.register.proofs.Rows.{none-kept, kept-member, member-kept}
+use Rattle.register.proofs.Rows.{or-false, none-kept, kept-member, member-kept}
 use Rattle.register.proofs.Order.{≤ℤ-shift, precedes-true, precedes-refl, precedes-total, precedesAll-trans}
 use Rattle.register.proofs.Permuted.{precedes-member}
 use Rattle.register.proofs.Stands.{SoundRow, Sound}
@@ -35,7 +37,7 @@ counted-none-fresh o at rows e = go (isArrival o at rows) refl
         absurd (true≢false (rw none at p))
 
 pub fresh-none-counted : (o : Opening) (at : Reading) (rows : Rows) → fresh o at rows ≡ [] → counted o at rows ≡ []
-unfolding keep some
+unfolding filter any
 fresh-none-counted o at rows e = rw e refl
 
 -- a counted row is one of the rows
@@ -51,15 +53,11 @@ counted-member o at rows row member = go (isArrival o at rows) refl
 
 -- ---- the answer's lateness
 
-or-false : (s t : Bool) → (s || t) ≡ false → t ≡ false
-or-false true t e = absurd (true≢false e)
-or-false false t e = e
-
 -- the expanded presentation minus received, modulo 2^64, is the delay
 pub delay-again :
     (received presented : ℕ) → received < 2 ^ 64 →
-    minus 64 (expanded received presented) received ≡ delay received presented
-unfolding minus
+    differenceMod 64 (expanded received presented) received ≡ delay received presented
+unfolding differenceMod
 delay-again received presented small =
     let most : _ = delay-bound received presented in
     rw (expanded-by-delay received presented) (omega arith)
@@ -75,7 +73,7 @@ delay-answered o row sound true e =
     rw e at (sound .presented) in
     let present : eqb (expanded (row .report .received) (row .report .presented)) 0 ≡ false =
     or-false (ltb (30 * 2 ^ 32) (delay (row .report .received) (row .report .presented)))
-    (eqb (expanded (row .report .received) (row .report .presented)) 0) passed in
+    (eqb (expanded (row .report .received) (row .report .presented)) 0) passed .1 in
     rw present (delay-again (row .report .received) (row .report .presented) (sound .range))
 
 -- ---- the choice
@@ -84,18 +82,18 @@ pub choice-of :
     (o : Opening) (at : Reading) (rows those : Rows) → counted o at rows ≡ those →
     choice o at rows
     ≡ firstOf (length those)
-    (keep (λ row. precedesAll (latenessOf o at) row those) those)
+    (filter (λ row. precedesAll (latenessOf o at) row those) those)
 unfolding choice
 choice-of o at rows those e =
     ap
     (λ (those : Rows).
     firstOf (length those)
-    (keep (λ row. precedesAll (latenessOf o at) row those) those))
+    (filter (λ row. precedesAll (latenessOf o at) row those) those))
     e
 
 pub choice-none :
-    (o : Opening) (at : Reading) (rows : Rows) → counted o at rows ≡ [] → choice o at rows ≡ Choice.Refused 20
-unfolding keep
+    (o : Opening) (at : Reading) (rows : Rows) → counted o at rows ≡ [] → choice o at rows ≡ Choice.Refused noneCounted
+unfolding filter
 choice-none o at rows e = choice-of o at rows [] e
 
 -- of one row or more, some row precedes all
@@ -153,7 +151,7 @@ choice-promised o at rows sound = go (counted o at rows) refl
     go [] e = rw (choice-none o at rows e) (refl, counted-none-fresh o at rows e)
     go (a ∷ rest) e =
         rw (choice-of o at rows (a ∷ rest) e)
-        (first (keep test (a ∷ rest)) refl)
+        (first (filter test (a ∷ rest)) refl)
       where
         late : Record → ℤ
         late = latenessOf o at
@@ -161,7 +159,7 @@ choice-promised o at rows sound = go (counted o at rows) refl
         test : Record → Bool
         test row = precedesAll late row (a ∷ rest)
 
-        first : (those : Rows) → keep test (a ∷ rest) ≡ those → Promised o at rows (firstOf (length (a ∷ rest)) those)
+        first : (those : Rows) → filter test (a ∷ rest) ≡ those → Promised o at rows (firstOf (length (a ∷ rest)) those)
         first [] f =
             let found : _ = first-exists late a rest in
             let kept : _ = member-kept test (found .0) (a ∷ rest) (found .2) (found .1) in

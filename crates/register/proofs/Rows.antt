@@ -2,11 +2,12 @@
 -- keeps them. By induction on the list or on the permutation, with the test's value as a case.
 use Prim.Native.Nat.{suc, _≤_, _<_}
 use mathlib.Core.Bool.{Bool, true, false, not, cond, _&&_, _||_, false≢true}
-use mathlib.Core.List.{List, [], _∷_, List·Memᴰ, List·Memᴰ·head, List·Memᴰ·tail, List·Permᴰ, List·Permᴰ·nil, List·Permᴰ·cons, List·Permᴰ·swap, List·Permᴰ·trans, Permᴰ·refl}
+use mathlib.Core.List.{List, [], _∷_, List·Memᴰ, List·Memᴰ·head, List·Memᴰ·tail, List·Permᴰ, List·Permᴰ·nil}
+use mathlib.Core.List.{List·Permᴰ·cons, List·Permᴰ·swap, List·Permᴰ·trans, Permᴰ·refl}
 use mathlib.Core.Path.{_≡_, refl, sym, ap, _∙_}
 use lib.ListN.{length}
 use native.Mathlib.Omega.{arith}
-use Rattle.register.specs.Register.{keep, some}
+use Rattle.register.specs.Register.{filter, any}
 
 -- ---- tests
 
@@ -14,7 +15,7 @@ use Rattle.register.specs.Register.{keep, some}
 pub clash : {A : Type 0} → false ≡ true → A
 clash e = absurd (false≢true e)
 
-or-false : (s t : Bool) → (s || t) ≡ false → (s ≡ false) × (t ≡ false)
+pub or-false : (s t : Bool) → (s || t) ≡ false → (s ≡ false) × (t ≡ false)
 or-false true t e = clash (sym e)
 or-false false t e = (refl, e)
 
@@ -25,15 +26,15 @@ or-swap false t u = refl
 
 -- ---- one element more
 
-pub keep-yes :
-    {A : Type 0} (test : A → Bool) (x : A) (xs : List A) → test x ≡ true → keep test (x ∷ xs) ≡ x ∷ keep test xs
-unfolding keep
-keep-yes test x xs e = ap (λ (t : Bool). cond t (x ∷ keep test xs) (keep test xs)) e
+pub filter-yes :
+    {A : Type 0} (test : A → Bool) (x : A) (xs : List A) → test x ≡ true → filter test (x ∷ xs) ≡ x ∷ filter test xs
+unfolding filter
+filter-yes test x xs e = ap (λ (t : Bool). cond t (x ∷ filter test xs) (filter test xs)) e
 
-pub keep-no :
-    {A : Type 0} (test : A → Bool) (x : A) (xs : List A) → test x ≡ false → keep test (x ∷ xs) ≡ keep test xs
-unfolding keep
-keep-no test x xs e = ap (λ (t : Bool). cond t (x ∷ keep test xs) (keep test xs)) e
+pub filter-no :
+    {A : Type 0} (test : A → Bool) (x : A) (xs : List A) → test x ≡ false → filter test (x ∷ xs) ≡ filter test xs
+unfolding filter
+filter-no test x xs e = ap (λ (t : Bool). cond t (x ∷ filter test xs) (filter test xs)) e
 
 -- ---- permutations
 
@@ -43,15 +44,15 @@ length-permuted (List·Permᴰ·cons e d) = ap suc (length-permuted d)
 length-permuted (List·Permᴰ·swap e₁ e₂) = refl
 length-permuted (List·Permᴰ·trans d₁ d₂) = length-permuted d₁ ∙ length-permuted d₂
 
-pub some-permuted :
-    {A : Type 0} (test : A → Bool) {xs ys : List A} → List·Permᴰ xs ys → some test xs ≡ some test ys
-unfolding some
-some-permuted test List·Permᴰ·nil = refl
-some-permuted test (List·Permᴰ·cons {b = b} {l₁ = l₁} e d) =
-    ap (λ x. test x || some test l₁) e ∙ ap (λ (t : Bool). test b || t) (some-permuted test d)
-some-permuted test (List·Permᴰ·swap {a} {b} {a′} {b′} {l} e₁ e₂) =
-    rw (e₁, e₂) (or-swap (test b′) (test a′) (some test l))
-some-permuted test (List·Permᴰ·trans d₁ d₂) = some-permuted test d₁ ∙ some-permuted test d₂
+pub any-permuted :
+    {A : Type 0} (test : A → Bool) {xs ys : List A} → List·Permᴰ xs ys → any test xs ≡ any test ys
+unfolding any
+any-permuted test List·Permᴰ·nil = refl
+any-permuted test (List·Permᴰ·cons {b = b} {l₁ = l₁} e d) =
+    ap (λ x. test x || any test l₁) e ∙ ap (λ (t : Bool). test b || t) (any-permuted test d)
+any-permuted test (List·Permᴰ·swap {a} {b} {a′} {b′} {l} e₁ e₂) =
+    rw (e₁, e₂) (or-swap (test b′) (test a′) (any test l))
+any-permuted test (List·Permᴰ·trans d₁ d₂) = any-permuted test d₁ ∙ any-permuted test d₂
 
 -- an element before two lists, or before neither
 cond-cons-permuted :
@@ -70,14 +71,14 @@ cond-swap-permuted true false x y xs = Permᴰ·refl (x ∷ xs)
 cond-swap-permuted false true x y xs = Permᴰ·refl (y ∷ xs)
 cond-swap-permuted false false x y xs = Permᴰ·refl xs
 
-pub keep-permuted :
-    {A : Type 0} (test : A → Bool) {xs ys : List A} → List·Permᴰ xs ys → List·Permᴰ (keep test xs) (keep test ys)
-unfolding keep
-keep-permuted test List·Permᴰ·nil = List·Permᴰ·nil
-keep-permuted test (List·Permᴰ·cons {b = b} e d) = rw e (cond-cons-permuted (test b) b (keep-permuted test d))
-keep-permuted test (List·Permᴰ·swap {a′ = a′} {b′ = b′} {l = l} e₁ e₂) =
-    rw (e₁, e₂) (cond-swap-permuted (test b′) (test a′) b′ a′ (keep test l))
-keep-permuted test (List·Permᴰ·trans d₁ d₂) = List·Permᴰ·trans (keep-permuted test d₁) (keep-permuted test d₂)
+pub filter-permuted :
+    {A : Type 0} (test : A → Bool) {xs ys : List A} → List·Permᴰ xs ys → List·Permᴰ (filter test xs) (filter test ys)
+unfolding filter
+filter-permuted test List·Permᴰ·nil = List·Permᴰ·nil
+filter-permuted test (List·Permᴰ·cons {b = b} e d) = rw e (cond-cons-permuted (test b) b (filter-permuted test d))
+filter-permuted test (List·Permᴰ·swap {a′ = a′} {b′ = b′} {l = l} e₁ e₂) =
+    rw (e₁, e₂) (cond-swap-permuted (test b′) (test a′) b′ a′ (filter test l))
+filter-permuted test (List·Permᴰ·trans d₁ d₂) = List·Permᴰ·trans (filter-permuted test d₁) (filter-permuted test d₂)
 
 -- one of two lists, by the same test
 pub cond-permuted :
@@ -97,116 +98,116 @@ short-permuted (List·Permᴰ·trans d₁ d₂) h =
 
 -- ---- where no element passes
 
-pub some-keep :
-    {A : Type 0} (test : A → Bool) (xs : List A) → some test xs ≡ false → keep (λ x. not (test x)) xs ≡ xs
-unfolding keep some
-some-keep test [] e = refl
-some-keep test (x ∷ xs) e =
-    let both : _ = or-false (test x) (some test xs) e in
-    keep-yes (λ y. not (test y)) x xs (ap not (both .0)) ∙ ap (λ ys. x ∷ ys) (some-keep test xs (both .1))
+pub any-filter :
+    {A : Type 0} (test : A → Bool) (xs : List A) → any test xs ≡ false → filter (λ x. not (test x)) xs ≡ xs
+unfolding filter any
+any-filter test [] e = refl
+any-filter test (x ∷ xs) e =
+    let both : _ = or-false (test x) (any test xs) e in
+    filter-yes (λ y. not (test y)) x xs (ap not (both .0)) ∙ ap (λ ys. x ∷ ys) (any-filter test xs (both .1))
 
-pub keep-none : {A : Type 0} (test : A → Bool) (xs : List A) → some test xs ≡ false → keep test xs ≡ []
-unfolding keep some
-keep-none test [] e = refl
-keep-none test (x ∷ xs) e =
-    let both : _ = or-false (test x) (some test xs) e in
-    keep-no test x xs (both .0) ∙ keep-none test xs (both .1)
+pub filter-none : {A : Type 0} (test : A → Bool) (xs : List A) → any test xs ≡ false → filter test xs ≡ []
+unfolding filter any
+filter-none test [] e = refl
+filter-none test (x ∷ xs) e =
+    let both : _ = or-false (test x) (any test xs) e in
+    filter-no test x xs (both .0) ∙ filter-none test xs (both .1)
 
-pub some-and-none :
-    {A : Type 0} (s t : A → Bool) (xs : List A) → some s xs ≡ false → some (λ x. s x && t x) xs ≡ false
-unfolding some
-some-and-none s t [] e = refl
-some-and-none s t (x ∷ xs) e =
-    let both : _ = or-false (s x) (some s xs) e in
-    ap (λ (v : Bool). v && t x || some (λ y. s y && t y) xs) (both .0) ∙ some-and-none s t xs (both .1)
+pub any-and-none :
+    {A : Type 0} (s t : A → Bool) (xs : List A) → any s xs ≡ false → any (λ x. s x && t x) xs ≡ false
+unfolding any
+any-and-none s t [] e = refl
+any-and-none s t (x ∷ xs) e =
+    let both : _ = or-false (s x) (any s xs) e in
+    ap (λ (v : Bool). v && t x || any (λ y. s y && t y) xs) (both .0) ∙ any-and-none s t xs (both .1)
 
 -- ---- how many are kept
 
-pub none-kept : {A : Type 0} (test : A → Bool) (xs : List A) → length (keep test xs) ≡ 0 → some test xs ≡ false
-unfolding some
+pub none-kept : {A : Type 0} (test : A → Bool) (xs : List A) → length (filter test xs) ≡ 0 → any test xs ≡ false
+unfolding any
 none-kept test [] e = refl
 none-kept {A} test (x ∷ xs) e = go (test x) refl (none-kept test xs)
   where
     go :
-        (t : Bool) → test x ≡ t → (length (keep test xs) ≡ 0 → some test xs ≡ false) → (t || some test xs) ≡ false
-    go true q rest = absurd (omega (arith, e, ap length (keep-yes test x xs q)))
-    go false q rest = rest (sym (ap length (keep-no test x xs q)) ∙ e)
+        (t : Bool) → test x ≡ t → (length (filter test xs) ≡ 0 → any test xs ≡ false) → (t || any test xs) ≡ false
+    go true q rest = absurd (omega (arith, e, ap length (filter-yes test x xs q)))
+    go false q rest = rest (sym (ap length (filter-no test x xs q)) ∙ e)
 
-pub length-keep-≤ : {A : Type 0} (test : A → Bool) (xs : List A) → length (keep test xs) ≤ length xs
-unfolding keep
-length-keep-≤ test [] = omega arith
-length-keep-≤ test (x ∷ xs) = go (test x) (length-keep-≤ test xs)
+pub length-filter-≤ : {A : Type 0} (test : A → Bool) (xs : List A) → length (filter test xs) ≤ length xs
+unfolding filter
+length-filter-≤ test [] = omega arith
+length-filter-≤ test (x ∷ xs) = go (test x) (length-filter-≤ test xs)
   where
     go :
-        (t : Bool) → length (keep test xs) ≤ length xs →
-        length (cond t (x ∷ keep test xs) (keep test xs)) ≤ suc (length xs)
+        (t : Bool) → length (filter test xs) ≤ length xs →
+        length (cond t (x ∷ filter test xs) (filter test xs)) ≤ suc (length xs)
     go true h = omega arith
     go false h = omega arith
 
 -- one element more keeps no fewer
-pub length-keep-cons :
-    {A : Type 0} (test : A → Bool) (x : A) (xs : List A) → length (keep test xs) ≤ length (keep test (x ∷ xs))
-unfolding keep
-length-keep-cons test x xs = go (test x)
+pub length-filter-cons :
+    {A : Type 0} (test : A → Bool) (x : A) (xs : List A) → length (filter test xs) ≤ length (filter test (x ∷ xs))
+unfolding filter
+length-filter-cons test x xs = go (test x)
   where
-    go : (t : Bool) → length (keep test xs) ≤ length (cond t (x ∷ keep test xs) (keep test xs))
+    go : (t : Bool) → length (filter test xs) ≤ length (cond t (x ∷ filter test xs) (filter test xs))
     go true = omega arith
     go false = omega arith
 
-pub length-keep-keep :
-    {A : Type 0} (s t : A → Bool) (xs : List A) → length (keep s (keep t xs)) ≤ length (keep s xs)
-unfolding keep
-length-keep-keep s t [] = omega arith
-length-keep-keep s t (x ∷ xs) = go (s x) (t x) refl (length-keep-keep s t xs)
+pub length-filter-filter :
+    {A : Type 0} (s t : A → Bool) (xs : List A) → length (filter s (filter t xs)) ≤ length (filter s xs)
+unfolding filter
+length-filter-filter s t [] = omega arith
+length-filter-filter s t (x ∷ xs) = go (s x) (t x) refl (length-filter-filter s t xs)
   where
     go :
-        (u v : Bool) → s x ≡ u → length (keep s (keep t xs)) ≤ length (keep s xs) →
-        length (keep s (cond v (x ∷ keep t xs) (keep t xs))) ≤ length (cond u (x ∷ keep s xs) (keep s xs))
-    go true true e h = omega (arith, ap length (keep-yes s x (keep t xs) e))
+        (u v : Bool) → s x ≡ u → length (filter s (filter t xs)) ≤ length (filter s xs) →
+        length (filter s (cond v (x ∷ filter t xs) (filter t xs))) ≤ length (cond u (x ∷ filter s xs) (filter s xs))
+    go true true e h = omega (arith, ap length (filter-yes s x (filter t xs) e))
     go true false e h = omega arith
-    go false true e h = omega (arith, ap length (keep-no s x (keep t xs) e))
+    go false true e h = omega (arith, ap length (filter-no s x (filter t xs) e))
     go false false e h = h
 
 -- ---- which are kept
 
-pub keep-cong : {A : Type 0} (s t : A → Bool) (xs : List A) → ((x : A) → s x ≡ t x) → keep s xs ≡ keep t xs
-unfolding keep
-keep-cong s t [] e = refl
-keep-cong s t (x ∷ xs) e =
-    ap (λ (u : Bool). cond u (x ∷ keep s xs) (keep s xs)) (e x)
-    ∙ ap (λ ys. cond (t x) (x ∷ ys) ys) (keep-cong s t xs e)
+pub filter-cong : {A : Type 0} (s t : A → Bool) (xs : List A) → ((x : A) → s x ≡ t x) → filter s xs ≡ filter t xs
+unfolding filter
+filter-cong s t [] e = refl
+filter-cong s t (x ∷ xs) e =
+    ap (λ (u : Bool). cond u (x ∷ filter s xs) (filter s xs)) (e x)
+    ∙ ap (λ ys. cond (t x) (x ∷ ys) ys) (filter-cong s t xs e)
 
 -- none passes after those that pass are gone
-pub keep-not-none : {A : Type 0} (test : A → Bool) (xs : List A) → keep test (keep (λ x. not (test x)) xs) ≡ []
-unfolding keep
-keep-not-none test [] = refl
-keep-not-none test (x ∷ xs) = go (test x) refl (keep-not-none test xs)
+pub filter-not-none : {A : Type 0} (test : A → Bool) (xs : List A) → filter test (filter (λ x. not (test x)) xs) ≡ []
+unfolding filter
+filter-not-none test [] = refl
+filter-not-none test (x ∷ xs) = go (test x) refl (filter-not-none test xs)
   where
     go :
-        (t : Bool) → test x ≡ t → keep test (keep (λ y. not (test y)) xs) ≡ [] →
-        keep test (cond (not t) (x ∷ keep (λ y. not (test y)) xs) (keep (λ y. not (test y)) xs)) ≡ []
+        (t : Bool) → test x ≡ t → filter test (filter (λ y. not (test y)) xs) ≡ [] →
+        filter test (cond (not t) (x ∷ filter (λ y. not (test y)) xs) (filter (λ y. not (test y)) xs)) ≡ []
     go true e rest = rest
-    go false e rest = keep-no test x (keep (λ y. not (test y)) xs) e ∙ rest
+    go false e rest = filter-no test x (filter (λ y. not (test y)) xs) e ∙ rest
 
 -- where each passes, all are kept
-pub keep-all :
-    {A : Type 0} (test : A → Bool) (xs : List A) → ((x : A) → List·Memᴰ x xs → test x ≡ true) → keep test xs ≡ xs
-unfolding keep
-keep-all test [] each = refl
-keep-all test (x ∷ xs) each =
-    keep-yes test x xs (each x (List·Memᴰ·head refl))
-    ∙ ap (λ ys. x ∷ ys) (keep-all test xs (λ y m. each y (List·Memᴰ·tail m)))
+pub filter-all :
+    {A : Type 0} (test : A → Bool) (xs : List A) → ((x : A) → List·Memᴰ x xs → test x ≡ true) → filter test xs ≡ xs
+unfolding filter
+filter-all test [] each = refl
+filter-all test (x ∷ xs) each =
+    filter-yes test x xs (each x (List·Memᴰ·head refl))
+    ∙ ap (λ ys. x ∷ ys) (filter-all test xs (λ y m. each y (List·Memᴰ·tail m)))
 
 -- what is kept passes, and was there
 pub kept-member :
-    {A : Type 0} (test : A → Bool) (x : A) (xs : List A) → List·Memᴰ x (keep test xs) →
+    {A : Type 0} (test : A → Bool) (x : A) (xs : List A) → List·Memᴰ x (filter test xs) →
     (test x ≡ true) × List·Memᴰ x xs
-unfolding keep
+unfolding filter
 kept-member test x (y ∷ ys) m = go (test y) refl m (kept-member test x ys)
   where
     go :
-        (t : Bool) → test y ≡ t → List·Memᴰ x (cond t (y ∷ keep test ys) (keep test ys)) →
-        (List·Memᴰ x (keep test ys) → (test x ≡ true) × List·Memᴰ x ys) →
+        (t : Bool) → test y ≡ t → List·Memᴰ x (cond t (y ∷ filter test ys) (filter test ys)) →
+        (List·Memᴰ x (filter test ys) → (test x ≡ true) × List·Memᴰ x ys) →
         (test x ≡ true) × List·Memᴰ x (y ∷ ys)
     go true e (List·Memᴰ·head q) rest = (ap test q ∙ e, List·Memᴰ·head q)
     go true e (List·Memᴰ·tail m′) rest = let found : _ = rest m′ in (found .0, List·Memᴰ·tail (found .1))
@@ -214,58 +215,58 @@ kept-member test x (y ∷ ys) m = go (test y) refl m (kept-member test x ys)
 
 -- what passes and is there is kept
 pub member-kept :
-    {A : Type 0} (test : A → Bool) (x : A) (xs : List A) → test x ≡ true → List·Memᴰ x xs → List·Memᴰ x (keep test xs)
-unfolding keep
+    {A : Type 0} (test : A → Bool) (x : A) (xs : List A) → test x ≡ true → List·Memᴰ x xs → List·Memᴰ x (filter test xs)
+unfolding filter
 member-kept test x (y ∷ ys) e (List·Memᴰ·head q) =
-    rw (keep-yes test y ys (ap test (sym q) ∙ e)) (List·Memᴰ·head q)
+    rw (filter-yes test y ys (ap test (sym q) ∙ e)) (List·Memᴰ·head q)
 member-kept test x (y ∷ ys) e (List·Memᴰ·tail m) = go (test y) (member-kept test x ys e m)
   where
-    go : (t : Bool) → List·Memᴰ x (keep test ys) → List·Memᴰ x (cond t (y ∷ keep test ys) (keep test ys))
+    go : (t : Bool) → List·Memᴰ x (filter test ys) → List·Memᴰ x (cond t (y ∷ filter test ys) (filter test ys))
     go true kept = List·Memᴰ·tail kept
     go false kept = kept
 
 -- fewer are kept where one does not pass
-pub length-keep-< :
+pub length-filter-< :
     {A : Type 0} (test : A → Bool) (x : A) (xs : List A) → test x ≡ false → List·Memᴰ x xs →
-    length (keep test xs) < length xs
-unfolding keep
-length-keep-< test x (y ∷ ys) e (List·Memᴰ·head q) =
-    omega (arith, length-keep-≤ test ys, ap length (keep-no test y ys (ap test (sym q) ∙ e)))
-length-keep-< test x (y ∷ ys) e (List·Memᴰ·tail m) = go (test y) (length-keep-< test x ys e m)
+    length (filter test xs) < length xs
+unfolding filter
+length-filter-< test x (y ∷ ys) e (List·Memᴰ·head q) =
+    omega (arith, length-filter-≤ test ys, ap length (filter-no test y ys (ap test (sym q) ∙ e)))
+length-filter-< test x (y ∷ ys) e (List·Memᴰ·tail m) = go (test y) (length-filter-< test x ys e m)
   where
     go :
-        (t : Bool) → length (keep test ys) < length ys →
-        length (cond t (y ∷ keep test ys) (keep test ys)) < suc (length ys)
+        (t : Bool) → length (filter test ys) < length ys →
+        length (cond t (y ∷ filter test ys) (filter test ys)) < suc (length ys)
     go true less = omega arith
     go false less = omega arith
 
 -- ---- two tests, one after the other
 
-keep-both-step :
+filter-both-step :
     {A : Type 0} (s t : A → Bool) (x : A) (xs : List A) (b : Bool) → s x ≡ b →
-    keep (λ y. s y && t y) xs ≡ keep t (keep s xs) →
-    keep (λ y. s y && t y) (x ∷ xs) ≡ keep t (keep s (x ∷ xs))
-unfolding keep
-keep-both-step {A} s t x xs true e rest = rw e (ap (λ (ys : List A). cond (t x) (x ∷ ys) ys) rest)
-keep-both-step s t x xs false e rest = rw e rest
+    filter (λ y. s y && t y) xs ≡ filter t (filter s xs) →
+    filter (λ y. s y && t y) (x ∷ xs) ≡ filter t (filter s (x ∷ xs))
+unfolding filter
+filter-both-step {A} s t x xs true e rest = rw e (ap (λ (ys : List A). cond (t x) (x ∷ ys) ys) rest)
+filter-both-step s t x xs false e rest = rw e rest
 
-pub keep-both : {A : Type 0} (s t : A → Bool) (xs : List A) → keep (λ y. s y && t y) xs ≡ keep t (keep s xs)
-unfolding keep
-keep-both s t [] = refl
-keep-both s t (x ∷ xs) = keep-both-step s t x xs (s x) refl (keep-both s t xs)
+pub filter-both : {A : Type 0} (s t : A → Bool) (xs : List A) → filter (λ y. s y && t y) xs ≡ filter t (filter s xs)
+unfolding filter
+filter-both s t [] = refl
+filter-both s t (x ∷ xs) = filter-both-step s t x xs (s x) refl (filter-both s t xs)
 
-some-both-step :
+any-both-step :
     {A : Type 0} (s t : A → Bool) (x : A) (xs : List A) (b : Bool) → s x ≡ b →
-    some (λ y. s y && t y) xs ≡ some t (keep s xs) →
-    some (λ y. s y && t y) (x ∷ xs) ≡ some t (keep s (x ∷ xs))
-unfolding some keep
-some-both-step s t x xs true e rest = rw e (ap (λ (b : Bool). t x || b) rest)
-some-both-step s t x xs false e rest = rw e rest
+    any (λ y. s y && t y) xs ≡ any t (filter s xs) →
+    any (λ y. s y && t y) (x ∷ xs) ≡ any t (filter s (x ∷ xs))
+unfolding any filter
+any-both-step s t x xs true e rest = rw e (ap (λ (b : Bool). t x || b) rest)
+any-both-step s t x xs false e rest = rw e rest
 
-pub some-both : {A : Type 0} (s t : A → Bool) (xs : List A) → some (λ y. s y && t y) xs ≡ some t (keep s xs)
-unfolding some keep
-some-both s t [] = refl
-some-both s t (x ∷ xs) = some-both-step s t x xs (s x) refl (some-both s t xs)
+pub any-both : {A : Type 0} (s t : A → Bool) (xs : List A) → any (λ y. s y && t y) xs ≡ any t (filter s xs)
+unfolding any filter
+any-both s t [] = refl
+any-both s t (x ∷ xs) = any-both-step s t x xs (s x) refl (any-both s t xs)
 
 -- ---- members
 

@@ -1,9 +1,10 @@
 -- Every row of the register stands on an accepted report, and so on one that passed its checks.
-use Prim.Native.Nat.{ℕ, suc, _^_, _<_}
+use Prim.Native.Nat.{ℕ, _^_, _<_}
 use mathlib.Core.Bool.{Bool, true, false, cond, _&&_}
 use mathlib.Core.List.{List, [], _∷_, _++_, append-nil, List·Memᴰ}
 use mathlib.Core.Path.{_≡_, refl, sym}
 use native.Mathlib.Omega.{arith}
+use Rattle.refusals.specs.Refusals.{otherStream, otherOrigin, receivedFar, rtpAged, badlyPresented}
 use Rattle.times.specs.Times.{isFar, isAged, isBadlyPresented}
 use Rattle.register.specs.declared.Record.{Record}
 use Rattle.register.specs.declared.Reading.{Reading}
@@ -16,22 +17,25 @@ use Rattle.register.proofs.Letter.Theorem.{made-of, letter}
 
 -- ---- answered 0, a report found room
 
-first-check : (t : Bool) (n m : ℕ) → cond t (suc n) m ≡ 0 → m ≡ 0
-first-check true n m e = absurd (omega arith)
-first-check false n m e = e
+first-check : (t : Bool) (n m : ℕ) → 0 < n → cond t n m ≡ 0 → m ≡ 0
+first-check true n m given e = absurd (omega (arith, given, e))
+first-check false n m given e = e
 
 pub accepted-room :
-    (o : Opening) (x : Record) (at : Reading) (elsewhere noRoom : Bool) → reportChecks o x at elsewhere noRoom ≡ 0 →
-    noRoom ≡ false
+    (o : Opening) (x : Record) (at : Reading) (elsewhere full : Bool) → reportChecks o x at elsewhere full ≡ 0 →
+    full ≡ false
 unfolding reportChecks
 accepted-room o x at elsewhere false e = refl
 accepted-room o x at elsewhere true e =
-    let past13 : _ = first-check (isOtherStream o (x .report .group) (x .report .media)) 12 _ e in
-    let past14 : _ = first-check elsewhere 13 _ past13 in
-    let past15 : _ = first-check (isFar (at .ntp) (x .report .received)) 14 _ past14 in
-    let past16 : _ = first-check (isAged (o .rate) (at .rtp) (x .report .rtp)) 15 _ past15 in
+    let past13 : _ =
+    first-check (isOtherStream o (x .report .group) (x .report .media)) otherStream _ (omega arith) e in
+    let past14 : _ = first-check elsewhere otherOrigin _ (omega arith) past13 in
+    let past15 : _ = first-check (isFar (at .ntp) (x .report .received)) receivedFar _ (omega arith) past14 in
+    let past16 : _ = first-check (isAged (o .rate) (at .rtp) (x .report .rtp)) rtpAged _ (omega arith) past15 in
     let past17 : _ =
-    first-check (presents x && isBadlyPresented (x .report .received) (x .report .presented)) 16 _ past16 in
+    first-check (presents x && isBadlyPresented (x .report .received) (x .report .presented)) badlyPresented _
+    (omega arith)
+    past16 in
     absurd (omega (arith, past17))
 
 -- ---- every row stands on an accepted report

@@ -9,40 +9,41 @@ use borrow.Author.Tests.{eq-eqb}
 use Rattle.origin.specs.declared.Origin.{Origin}
 use Rattle.origin.specs.Origins.{sameOrigin}
 use Rattle.register.specs.declared.Record.{Record}
-use Rattle.register.specs.Register.{Rows, keep, some, hasNumber, isHeldElsewhere}
+use Rattle.register.specs.Register.{Rows, filter, any, hasNumber, isHeldElsewhere}
 use Rattle.register.specs.Promise.{Unique}
-use Rattle.register.proofs.Rows.{keep-yes, keep-no, length-permuted, keep-permuted, some-keep, some-and-none, none-kept, length-keep-cons, length-keep-keep}
+use Rattle.register.proofs.Rows.{filter-yes, filter-no, length-permuted, filter-permuted, any-filter}
+use Rattle.register.proofs.Rows.{any-and-none, none-kept, length-filter-cons, length-filter-filter}
 
 pub unique-permuted : {rows rows′ : Rows} → List·Permᴰ rows rows′ → Unique rows → Unique rows′
-unique-permuted d u source = omega (arith, u source, length-permuted (keep-permuted (hasNumber source) d))
+unique-permuted d u source = omega (arith, u source, length-permuted (filter-permuted (hasNumber source) d))
 
-pub unique-keep : (test : Record → Bool) (rows : Rows) → Unique rows → Unique (keep test rows)
-unique-keep test rows u source = omega (arith, u source, length-keep-keep (hasNumber source) test rows)
+pub unique-filter : (test : Record → Bool) (rows : Rows) → Unique rows → Unique (filter test rows)
+unique-filter test rows u source = omega (arith, u source, length-filter-filter (hasNumber source) test rows)
 
 pub unique-rest : (r : Record) (rows : Rows) → Unique (r ∷ rows) → Unique rows
-unique-rest r rows u source = omega (arith, u source, length-keep-cons (hasNumber source) r rows)
+unique-rest r rows u source = omega (arith, u source, length-filter-cons (hasNumber source) r rows)
 
 -- the first row's number is in no other
 pub none-after :
     (source : ℕ) (r : Record) (rows : Rows) → Unique (r ∷ rows) → hasNumber source r ≡ true →
-    some (hasNumber source) rows ≡ false
+    any (hasNumber source) rows ≡ false
 none-after source r rows u e =
     none-kept
     (hasNumber source)
     rows
-    (omega (arith, u source, ap length (keep-yes (hasNumber source) r rows e)))
+    (omega (arith, u source, ap length (filter-yes (hasNumber source) r rows e)))
 
 own-number : (r : Record) → hasNumber (r .source) r ≡ true
 own-number r = eq-eqb (r .source) (r .source) refl
 
-pub unique-tail : (r : Record) (rows : Rows) → Unique (r ∷ rows) → some (hasNumber (r .source)) rows ≡ false
+pub unique-tail : (r : Record) (rows : Rows) → Unique (r ∷ rows) → any (hasNumber (r .source)) rows ≡ false
 unique-tail r rows u = none-after (r .source) r rows u (own-number r)
 
 pub without-own :
-    (r : Record) (rows : Rows) → Unique (r ∷ rows) → keep (λ row. not (hasNumber (r .source) row)) (r ∷ rows) ≡ rows
+    (r : Record) (rows : Rows) → Unique (r ∷ rows) → filter (λ row. not (hasNumber (r .source) row)) (r ∷ rows) ≡ rows
 without-own r rows u =
-    keep-no (λ row. not (hasNumber (r .source) row)) r rows (ap not (own-number r))
-    ∙ some-keep (hasNumber (r .source)) rows (unique-tail r rows u)
+    filter-no (λ row. not (hasNumber (r .source) row)) r rows (ap not (own-number r))
+    ∙ any-filter (hasNumber (r .source)) rows (unique-tail r rows u)
 
 or-none : (s t : Bool) → t ≡ false → (s || t) ≡ s
 or-none true t e = refl
@@ -51,12 +52,12 @@ or-none false t e = e
 pub elsewhere-own :
     (r : Record) (rows : Rows) → Unique (r ∷ rows) → (origin : Origin) →
     isHeldElsewhere (r ∷ rows) (r .source) origin ≡ not (sameOrigin (r .origin) origin)
-unfolding some
+unfolding any
 elsewhere-own r rows u origin =
     or-none
     (hasNumber (r .source) r && not (sameOrigin (r .origin) origin))
     (isHeldElsewhere rows (r .source) origin)
-    (some-and-none
+    (any-and-none
     (hasNumber (r .source))
     (λ row. not (sameOrigin (row .origin) origin))
     rows

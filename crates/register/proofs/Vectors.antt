@@ -4,12 +4,13 @@ use Prim.Native.Nat.{ℕ, _+_, _*_, _^_}
 use mathlib.Core.List.{List, [], _∷_}
 use mathlib.Core.Path.{_≡_, refl}
 use lib.IntN.{pos}
-use Rattle.times.specs.Times.{minus, step, unwrapped, expanded, delay}
+use Rattle.times.specs.Times.{differenceMod, step, unwrapped, expanded, delay}
 use Rattle.origin.specs.declared.Origin.{Origin}
 use Rattle.origin.specs.Origins.{sameBytes, sameOrigin}
 use Rattle.register.specs.declared.Record.{Record}
 use Rattle.register.specs.declared.Reading.{Reading}
-use Rattle.register.specs.Register.{Opening, Call, keep, some, renewed, reportChecks, farewellChecks, answer, after, answers, afterAll}
+use Rattle.register.specs.Register.{Opening, Call, filter, any, renewed, reportChecks, farewellChecks, answer}
+use Rattle.register.specs.Register.{after, answers, afterAll}
 use Rattle.register.specs.Choosing.{lateness, latenessOf, precedesAll, choice}
 use Rattle.register.specs.declared.Choice.{Choice}
 
@@ -73,7 +74,20 @@ target20 = target 20 (seconds 998) 8820000 (seconds 998 + 0xC0000000) 2
 
 -- 20 without a presented time: counted in arrival mode alone
 abbrev silent : Record
-silent = record { source = 20; origin = port 5006; report = record { «payload_type» = 33; p = 0; group = 42; media = 7; received = seconds 998; rtp = 8820000; presented = 0 } }
+silent =
+    record {
+      source = 20;
+      origin = port 5006;
+      report = record {
+        «payload_type» = 33;
+        p = 0;
+        group = 42;
+        media = 7;
+        received = seconds 998;
+        rtp = 8820000;
+        presented = 0;
+      };
+    }
 
 -- with presented 03E7C000 instead, as late as twenty
 abbrev tenLater : Record
@@ -121,6 +135,7 @@ cases :
     -- 20 where no row is fresh, and without rows
     × (choice opening (later (seconds 10)) (ten ∷ twenty ∷ []) ≡ Choice.Refused 20)
     × (choice opening reading [] ≡ Choice.Refused 20)
-unfolding keep some renewed reportChecks farewellChecks answer after answers afterAll lateness precedesAll choice sameBytes sameOrigin minus step unwrapped expanded delay
+unfolding filter any renewed reportChecks farewellChecks answer after answers afterAll lateness precedesAll choice
+    sameBytes sameOrigin differenceMod step unwrapped expanded delay
 cases =
     (refl, refl, refl, refl, refl, refl, refl, refl, refl, refl, refl, refl, refl, refl, refl, refl, refl)

@@ -6,29 +6,30 @@ use lib.Dec.{leb, eqb}
 use lib.IntN.{ℤ, pos, subℕ, _+ℤ_, _*ℤ_}
 use lib.Signed.{leZ, ltZ}
 use lib.ListN.{length}
-use Rattle.times.specs.Times.{minus, ntpAge, rtpAge, delay, expanded}
+use Rattle.refusals.specs.Refusals.{noneCounted}
+use Rattle.times.specs.Times.{differenceMod, ntpAge, rtpAge, delay, expanded}
 use Rattle.register.specs.declared.Record.{Record}
 use Rattle.register.specs.declared.Reading.{Reading}
 use Rattle.register.specs.declared.Target.{Target}
 use Rattle.register.specs.declared.Choice.{Choice}
-use Rattle.register.specs.Register.{Opening, Rows, keep, some, presents, freshAt}
+use Rattle.register.specs.Register.{Opening, Rows, filter, any, presents, freshAt}
 
--- lateness, in units of 1/(rate × 2^32) s: rate × (delay − NTP age) + RTP age × 2^32, a signed number. `wait` is the delay
--- here, `age` the NTP age and `ticks` the RTP age.
+-- lateness, in units of 1/(rate × 2^32) s: rate × (delay − NTP age) + RTP age × 2^32, a signed number. `wait` is the
+-- delay here, `age` the NTP age and `ticks` the RTP age.
 unfoldable pub lateness : (rate wait age ticks : ℕ) → ℤ
 lateness rate wait age ticks = pos rate *ℤ subℕ wait age +ℤ pos (ticks * 2 ^ 32)
 
 -- the fresh rows
 abbrev pub fresh : Opening → Reading → Rows → Rows
-fresh o at rows = keep (freshAt o at) rows
+fresh o at rows = filter (freshAt o at) rows
 
 -- whether no fresh row has P 1
 abbrev pub isArrival : Opening → Reading → Rows → Bool
-isArrival o at rows = not (some presents (fresh o at rows))
+isArrival o at rows = not (any presents (fresh o at rows))
 
 -- the fresh rows whose report has P 1; if there are none, all fresh rows (arrival mode)
 abbrev pub counted : Opening → Reading → Rows → Rows
-counted o at rows = cond (isArrival o at rows) (fresh o at rows) (keep presents (fresh o at rows))
+counted o at rows = cond (isArrival o at rows) (fresh o at rows) (filter presents (fresh o at rows))
 
 -- a counted row's delay. A row with P 0 is counted in arrival mode alone, and its delay is 0.
 abbrev pub delayOf : Record → ℕ
@@ -53,7 +54,7 @@ precedesAll late a (b ∷ rows) = precedes late a b && precedesAll late a rows
 -- distinct, and none where nothing is counted
 abbrev pub chosen : Opening → Reading → Rows → Rows
 chosen o at rows =
-    keep (λ row. precedesAll (latenessOf o at) row (counted o at rows)) (counted o at rows)
+    filter (λ row. precedesAll (latenessOf o at) row (counted o at rows)) (counted o at rows)
 
 -- the member's number, the settings fields from its own report (presented expanded, or 0 in arrival mode), and how many
 -- were counted
@@ -72,7 +73,7 @@ targetOf row count =
 
 -- 20 where nothing is counted
 abbrev pub firstOf : ℕ → Rows → Choice
-firstOf count [] = Choice.Refused 20
+firstOf count [] = Choice.Refused noneCounted
 firstOf count (row ∷ rows) = targetOf row count
 
 unfoldable pub choice : Opening → Reading → Rows → Choice
@@ -82,7 +83,7 @@ choice o at rows = firstOf (length (counted o at rows)) (chosen o at rows)
 
 -- the delay of the three times in an answer: presented minus received modulo 2^64, or 0 where presented is 0
 abbrev pub delayBetween : ℕ → ℕ → ℕ
-delayBetween received presented = cond (eqb presented 0) 0 (minus 64 presented received)
+delayBetween received presented = cond (eqb presented 0) 0 (differenceMod 64 presented received)
 
 -- the lateness of three times, a settings packet's
 abbrev pub timesLateness : Opening → Reading → (received rtp presented : ℕ) → ℤ

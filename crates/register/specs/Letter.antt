@@ -6,6 +6,8 @@ use mathlib.Core.List.{List, [], _∷_, _++_, List·Memᴰ}
 use mathlib.Core.Logic.{_⊎_, _↔_}
 use mathlib.Core.Path.{_≡_}
 use lib.ListN.{length}
+use Rattle.refusals.specs.Refusals.{badOpening, otherStream, otherOrigin, receivedFar, rtpAged, badlyPresented}
+use Rattle.refusals.specs.Refusals.{noRoom, noMember}
 use Rattle.times.specs.Times.{ntpAge, rtpAge, delay, expanded}
 use Rattle.origin.specs.declared.Origin.{Origin}
 use Rattle.register.specs.declared.Record.{Record}
@@ -111,27 +113,27 @@ NoRoom o h source = NotHeld o h source × ((rows : Rows) × AreAll o h rows × (
 
 -- ---- the papers' table of refusal numbers
 
--- a line of it: a number, and when it is given
+-- a line of it: a number, and when it is given (12 to 19 below, by their names)
 pub record Line : Type 1 where
   pub number : ℕ
   pub Applies : Type 0
 
 abbrev pub openingLines : Opening → List Line
-openingLines o = record { number = 12; Applies = BadOpening o } ∷ []
+openingLines o = record { number = badOpening; Applies = BadOpening o } ∷ []
 
 -- the lines that a call meets, in their order
 unfoldable pub linesOf : Opening → History → Call → List Line
 linesOf o h (Call.report x at) =
-    record { number = 13; Applies = OtherStream o x }
-    ∷ record { number = 14; Applies = HeldElsewhere o h (x .source) (x .origin) }
-    ∷ record { number = 15; Applies = ReceivedFar at x }
-    ∷ record { number = 16; Applies = RtpAged o at x }
-    ∷ record { number = 17; Applies = BadlyPresented x }
-    ∷ record { number = 18; Applies = NoRoom o h (x .source) }
+    record { number = otherStream; Applies = OtherStream o x }
+    ∷ record { number = otherOrigin; Applies = HeldElsewhere o h (x .source) (x .origin) }
+    ∷ record { number = receivedFar; Applies = ReceivedFar at x }
+    ∷ record { number = rtpAged; Applies = RtpAged o at x }
+    ∷ record { number = badlyPresented; Applies = BadlyPresented x }
+    ∷ record { number = noRoom; Applies = NoRoom o h (x .source) }
     ∷ []
 linesOf o h (Call.farewell source origin) =
-    record { number = 19; Applies = NotHeld o h source }
-    ∷ record { number = 14; Applies = HeldElsewhere o h source origin }
+    record { number = noMember; Applies = NotHeld o h source }
+    ∷ record { number = otherOrigin; Applies = HeldElsewhere o h source origin }
     ∷ []
 linesOf o h (Call.sweep at) = []
 
@@ -161,8 +163,9 @@ FromTwin x (Call.sweep at) = ⊥
 
 -- a report is refused with 13 where group or media source differ, else with 14; a farewell with 14
 abbrev pub TwinGets : Opening → Call → ℕ → Type 0
-TwinGets o (Call.report y at) number = (OtherStream o y → number ≡ 13) × ((OtherStream o y → ⊥) → number ≡ 14)
-TwinGets o (Call.farewell source origin) number = number ≡ 14
+TwinGets o (Call.report y at) number =
+    (OtherStream o y → number ≡ otherStream) × ((OtherStream o y → ⊥) → number ≡ otherOrigin)
+TwinGets o (Call.farewell source origin) number = number ≡ otherOrigin
 TwinGets o (Call.sweep at) number = ⊥
 
 -- a twin's call is refused, and the member is shown as before

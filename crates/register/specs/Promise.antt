@@ -5,15 +5,16 @@ use mathlib.Core.List.{List, [], _∷_, List·Memᴰ}
 use lib.IntN.{ℤ}
 use lib.ListN.{length}
 use lib.Signed.{_≤ℤ_}
+use Rattle.refusals.specs.Refusals.{noneCounted}
 use Rattle.register.specs.declared.Record.{Record}
 use Rattle.register.specs.declared.Reading.{Reading}
 use Rattle.register.specs.declared.Choice.{Choice}
-use Rattle.register.specs.Register.{Opening, Rows, Call, keep, hasNumber}
+use Rattle.register.specs.Register.{Opening, Rows, Call, filter, hasNumber}
 use Rattle.register.specs.Choosing.{fresh, counted, latenessOf, targetLateness, moment}
 
 -- no number has two rows
 abbrev pub Unique : Rows → Type 0
-Unique rows = (source : ℕ) → length (keep (hasNumber source) rows) ≤ 1
+Unique rows = (source : ℕ) → length (filter (hasNumber source) rows) ≤ 1
 
 -- a report's received time has 64 bits: the only range that demand 3 needs
 abbrev pub InRange : Call → Type 0
@@ -44,4 +45,4 @@ Promised o at rows (Choice.Target x) =
     × ((late : ℤ) → AsksNoneEarlier o at rows late → targetLateness o at x ≤ℤ late)
     × IsReported o at rows (targetLateness o at x)
     × (fresh o at rows ≡ [] → ⊥)
-Promised o at rows (Choice.Refused number) = (number ≡ 20) × (fresh o at rows ≡ [])
+Promised o at rows (Choice.Refused number) = (number ≡ noneCounted) × (fresh o at rows ≡ [])

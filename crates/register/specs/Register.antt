@@ -5,6 +5,7 @@ use mathlib.Core.Bool.{Bool, false, not, cond, _&&_, _||_}
 use mathlib.Core.List.{List, [], _∷_}
 use lib.Dec.{ltb, eqb}
 use lib.ListN.{length}
+use Rattle.refusals.specs.Refusals.{otherStream, otherOrigin, receivedFar, rtpAged, badlyPresented, noRoom, noMember}
 use Rattle.times.specs.Times.{isFar, isAged, isBadlyPresented, isFresh}
 use Rattle.origin.specs.declared.Origin.{Origin}
 use Rattle.origin.specs.Origins.{sameOrigin}
@@ -34,13 +35,13 @@ isRefusedOpening o = eqb (o .group) 0 || eqb (o .group) 4294967295 || eqb (o .ra
 -- ---- rows
 
 -- the rows for which a test is true, in order
-unfoldable pub keep : {A : Type 0} → (A → Bool) → List A → List A
-keep test [] = []
-keep test (x ∷ xs) = cond (test x) (x ∷ keep test xs) (keep test xs)
+unfoldable pub filter : {A : Type 0} → (A → Bool) → List A → List A
+filter test [] = []
+filter test (x ∷ xs) = cond (test x) (x ∷ filter test xs) (filter test xs)
 
-unfoldable pub some : {A : Type 0} → (A → Bool) → List A → Bool
-some test [] = false
-some test (x ∷ xs) = test x || some test xs
+unfoldable pub any : {A : Type 0} → (A → Bool) → List A → Bool
+any test [] = false
+any test (x ∷ xs) = test x || any test xs
 
 -- P 1, which any number but 0 stands for
 abbrev pub presents : Record → Bool
@@ -51,7 +52,7 @@ hasNumber source row = eqb (row .source) source
 
 -- a row has this number with another origin
 abbrev pub isHeldElsewhere : Rows → ℕ → Origin → Bool
-isHeldElsewhere rows source origin = some (λ row. hasNumber source row && not (sameOrigin (row .origin) origin)) rows
+isHeldElsewhere rows source origin = any (λ row. hasNumber source row && not (sameOrigin (row .origin) origin)) rows
 
 -- the last accepted report stands: it replaces the report in its number's row, whose origin check 14 found to be the
 -- same, or makes a new row
@@ -65,21 +66,21 @@ renewed (row ∷ rows) x = cond (hasNumber (x .source) row) (x ∷ rows) (row �
 abbrev pub isOtherStream : Opening → (group media : ℕ) → Bool
 isOtherStream o group media = not (eqb group (o .group) && eqb media (o .media))
 
--- checks 13 to 18 in order: the first that applies is the answer. Check 14 applies where the number is held elsewhere, 18
--- where there is no room.
-unfoldable pub reportChecks : Opening → Record → Reading → (elsewhere noRoom : Bool) → ℕ
-reportChecks o x at elsewhere noRoom =
-    cond (isOtherStream o (x .report .group) (x .report .media)) 13
-    (cond elsewhere 14
-    (cond (isFar (at .ntp) (x .report .received)) 15
-    (cond (isAged (o .rate) (at .rtp) (x .report .rtp)) 16
-    (cond (presents x && isBadlyPresented (x .report .received) (x .report .presented)) 17
-    (cond noRoom 18
+-- checks 13 to 18 in order: the first that applies is the answer. Check 14 applies where the number is held elsewhere,
+-- 18 where it is new and there is no room.
+unfoldable pub reportChecks : Opening → Record → Reading → (elsewhere full : Bool) → ℕ
+reportChecks o x at elsewhere full =
+    cond (isOtherStream o (x .report .group) (x .report .media)) otherStream
+    (cond elsewhere otherOrigin
+    (cond (isFar (at .ntp) (x .report .received)) receivedFar
+    (cond (isAged (o .rate) (at .rtp) (x .report .rtp)) rtpAged
+    (cond (presents x && isBadlyPresented (x .report .received) (x .report .presented)) badlyPresented
+    (cond full noRoom
     0)))))
 
 -- a new member, and 64 rows
 abbrev pub hasNoRoom : Rows → ℕ → Bool
-hasNoRoom rows source = not (some (hasNumber source) rows) && eqb (length rows) 64
+hasNoRoom rows source = not (any (hasNumber source) rows) && eqb (length rows) 64
 
 abbrev pub reportAnswer : Opening → Rows → Record → Reading → ℕ
 reportAnswer o rows x at =
@@ -87,10 +88,10 @@ reportAnswer o rows x at =
 
 -- a number that no row has gets 19, one whose row has another origin 14
 unfoldable pub farewellChecks : (held elsewhere : Bool) → ℕ
-farewellChecks held elsewhere = cond (not held) 19 (cond elsewhere 14 0)
+farewellChecks held elsewhere = cond (not held) noMember (cond elsewhere otherOrigin 0)
 
 abbrev pub farewellAnswer : Rows → ℕ → Origin → ℕ
-farewellAnswer rows source origin = farewellChecks (some (hasNumber source) rows) (isHeldElsewhere rows source origin)
+farewellAnswer rows source origin = farewellChecks (any (hasNumber source) rows) (isHeldElsewhere rows source origin)
 
 unfoldable pub answer : Opening → Rows → Call → ℕ
 answer o rows (Call.report x at) = reportAnswer o rows x at
@@ -101,17 +102,15 @@ answer o rows (Call.sweep at) = 0
 abbrev pub freshAt : Opening → Reading → Record → Bool
 freshAt o at row = isFresh (o .rate) (at .ntp) (at .rtp) (row .report .received) (row .report .rtp)
 
+-- the rows that an accepted call leaves
 abbrev pub accepted : Opening → Rows → Call → Rows
 accepted o rows (Call.report x at) = renewed rows x
-accepted o rows (Call.farewell source origin) = keep (λ row. not (hasNumber source row)) rows
-accepted o rows (Call.sweep at) = keep (freshAt o at) rows
+accepted o rows (Call.farewell source origin) = filter (λ row. not (hasNumber source row)) rows
+accepted o rows (Call.sweep at) = filter (freshAt o at) rows
 
--- refused, whatever the number, a call changes nothing
-abbrev pub refused : Rows → ℕ → Call → Rows
-refused rows number call = rows
-
+-- refused, a call changes nothing
 unfoldable pub after : Opening → Rows → Call → Rows
-after o rows call = cond (eqb (answer o rows call) 0) (accepted o rows call) (refused rows (answer o rows call) call)
+after o rows call = cond (eqb (answer o rows call) 0) (accepted o rows call) rows
 
 -- ---- any list of calls: every answer, and the rows afterwards
 

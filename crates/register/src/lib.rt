@@ -4,7 +4,7 @@ use origin::Origin;
 // A report as it stands in a row: the fields of a report item but its sender, who is the record's source. `p` is a
 // number so that a host in C need not vet it: any value but 0 is P 1.
 #[repr(C)]
-pub struct Standing {
+pub struct ReportFields {
     pub received: u64,
     pub group: u32,
     pub media: u32,
@@ -19,7 +19,7 @@ pub struct Standing {
 pub struct Record {
     pub source: u32,
     pub origin: Origin,
-    pub report: Standing,
+    pub report: ReportFields,
 }
 
 // A sender's reading of both clocks: NTP time N and RTP time R.

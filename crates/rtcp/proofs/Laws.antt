@@ -1,10 +1,5 @@
-pub mod Bytes
-pub mod Types
-pub mod Walk
-pub mod Packet
-pub mod Blocks
-pub mod Datagram
 pub mod Answers
+pub mod Blocks
 pub mod ItemPlaces
 pub mod Advance
 pub mod Cursor

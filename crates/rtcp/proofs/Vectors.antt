@@ -6,15 +6,17 @@ use mathlib.Core.List.{List, [], _∷_, _++_}
 use Rattle.idms.specs.declared.Report.{Report}
 use Rattle.idms.specs.declared.Settings.{Settings}
 use Rattle.idms.specs.declared.Item.{Item}
-use Rattle.rtcp.specs.declared.walk.Count.{Count}
 use Rattle.idms.specs.declared.Found.{Found}
-use Rattle.rtcp.specs.Bytes.{be16, be32, be64}
-use Rattle.rtcp.specs.Walk.{walking, walk}
-use Rattle.rtcp.specs.Packet.{paddingIsBad, content, byType, contentIsShort, headCheck}
-use Rattle.rtcp.specs.Report.{blockCheck, reportAt, blockItems}
-use Rattle.rtcp.specs.Settings.{settingsAt}
-use Rattle.rtcp.specs.Datagram.{packetCheck, packetItems, datagramCheck, datagramItems}
-use Rattle.rtcp.specs.Answers.{countOf, itemOf, pick, refusal}
+use Rattle.refusals.specs.Refusals.{badLength, badFirst, noSuchItem}
+use Rattle.packet.specs.Bytes.{be16, be32, be64}
+use Rattle.packet.specs.Packet.{paddingIsBad, content, kindOf, headCheck}
+use Rattle.packet.specs.Report.{blockCheck, reportAt, blockItems}
+use Rattle.packet.specs.Settings.{settingsAt}
+use Rattle.datagram.specs.declared.Count.{Count}
+use Rattle.datagram.specs.Walk.{walking, walk}
+use Rattle.datagram.specs.Datagram.{packetCheck, packetItems, datagramCheck, datagramItems}
+use Rattle.datagram.specs.Answers.{refusal, itemCount}
+use Rattle.rtcp.specs.Answers.{itemOf, pick}
 
 -- an RR of 8 bytes with count 0
 rr : List ℕ
@@ -65,13 +67,13 @@ p3-settings =
 -- The empty datagram; one RR alone; P5 and P3 behind an RR; P5 with no RR before it; both behind one RR, and the second
 -- of them. Each is computed from the definitions.
 vectors :
-    (countOf [] ≡ Count.Refused (refusal 1 0))
-    × (countOf rr ≡ Count.Items 0)
-    × (itemOf rr 0 ≡ Found.Refused (refusal 9 0))
+    (itemCount [] ≡ Count.Refused (refusal badLength 0))
+    × (itemCount rr ≡ Count.Items 0)
+    × (itemOf rr 0 ≡ Found.Refused (refusal noSuchItem 0))
     × (itemOf (rr ++ p5) 0 ≡ Found.Item (record { place = 16; item = Item.Report p5-report }))
     × (itemOf (rr ++ p3) 0 ≡ Found.Item (record { place = 8; item = Item.Settings p3-settings }))
-    × (countOf p5 ≡ Count.Refused (refusal 4 0))
-    × (countOf (rr ++ p5 ++ p3) ≡ Count.Items 2)
+    × (itemCount p5 ≡ Count.Refused (refusal badFirst 0))
+    × (itemCount (rr ++ p5 ++ p3) ≡ Count.Items 2)
     × (itemOf (rr ++ p5 ++ p3) 1 ≡ Found.Item (record { place = 48; item = Item.Settings p3-settings }))
-unfolding countOf itemOf pick datagramCheck datagramItems walk walking packetCheck packetItems headCheck paddingIsBad content byType contentIsShort blockCheck blockItems reportAt settingsAt be16 be32 be64 rr p5 p5-report p3 p3-settings
+unfolding itemCount itemOf pick datagramCheck datagramItems walk walking packetCheck packetItems headCheck paddingIsBad content kindOf blockCheck blockItems reportAt settingsAt be16 be32 be64 rr p5 p5-report p3 p3-settings
 vectors = (refl, refl, refl, refl, refl, refl, refl, refl)

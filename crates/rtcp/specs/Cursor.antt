@@ -4,67 +4,53 @@
 -- gives what it can read, which may be items of a datagram that is refused, and ends where it cannot read on.
 use Prim.Native.Nat.{ℕ, suc, zero, _+_, _-_, _*_}
 use mathlib.Core.List.{List, [], _∷_, _++_}
-use mathlib.Core.Bool.{Bool, not, cond, _&&_, _||_}
+use mathlib.Core.Bool.{cond}
 use lib.ListN.{length}
-use lib.Dec.{ltb, leb}
+use lib.Dec.{leb}
+use Rattle.idms.specs.declared.Item.{Item}
 use Rattle.idms.specs.declared.Placed.{Placed}
+use Rattle.idms.specs.declared.Report.{Report}
+use Rattle.packet.specs.declared.contents.Packet.{Packet}
+use Rattle.packet.specs.declared.block.Block.{Block}
+use Rattle.packet.specs.declared.bytes.Source.{Source}
+use Rattle.packet.specs.Report.{reportAt}
+use Rattle.packet.specs.Settings.{settingsItem}
+use Rattle.packet.specs.Answers.{packetIs, blockIs, sourceIs}
+use Rattle.datagram.specs.Datagram.{sourceItems, blocksItems, packetsItems}
 use Rattle.rtcp.specs.declared.cursor.State.{State}
 use Rattle.rtcp.specs.declared.cursor.Cursor.{Cursor}
 use Rattle.rtcp.specs.declared.cursor.Step.{Step}
 use Rattle.rtcp.specs.declared.cursor.Advance.{Advance}
-use Rattle.rtcp.specs.Refusals.{Check, passed, refused}
-use Rattle.rtcp.specs.Bytes.{be32}
-use Rattle.rtcp.specs.Packet.{byType, packetType, count, size, content, contentIsShort}
-use Rattle.rtcp.specs.Report.{blockSize, blockCheck, blockItems}
-use Rattle.rtcp.specs.Settings.{settingsItem}
-use Rattle.rtcp.specs.Farewell.{farewellItem}
-use Rattle.rtcp.specs.Datagram.{sourceItems, blocksItems, packetsItems}
 
--- the packet behind p
-abbrev pub past : List ℕ → ℕ → State
-past d p = State.Packet (p + size d p)
+-- the step at the packet at p, by what it holds
+abbrev pub packetStep : List ℕ → ℕ → Packet → Advance
+packetStep d p (Packet.Unread next) = Advance.Onward (State.Packet next)
+packetStep d p (Packet.Sources first stop next) = Advance.Onward (State.Sources first stop next)
+packetStep d p (Packet.Blocks sender first stop next) = Advance.Onward (State.Blocks sender first stop next)
+packetStep d p (Packet.Settings next) = Advance.Item (settingsItem d p) (State.Packet next)
+packetStep d p Packet.Unreadable = Advance.End
 
--- The packet lies in the datagram and has its least content: what a cursor looks at again. Checks 2 and 5 say so of
--- every packet of a datagram that is not refused.
-unfoldable pub readable : List ℕ → ℕ → Bool
-readable d p = leb (p + size d p) (length d) && not (contentIsShort (packetType d p) (count d p) (content d p))
+-- the step at a source
+abbrev pub sourceStep : ℕ → ℕ → ℕ → Source → Advance
+sourceStep at stop next (Source.Number source) =
+    Advance.Item (record { place = at; item = Item.Farewell source }) (State.Sources (at + 4) stop next)
+sourceStep at stop next Source.Outside = Advance.End
 
--- a packet is taken apart by its type
-unfoldable pub entered : List ℕ → ℕ → Advance
-entered d p =
-    byType (packetType d p)
-    (Advance.Onward (past d p))
-    (Advance.Onward (past d p))
-    (Advance.Onward (State.Sources (p + 4) (p + (4 + 4 * count d p)) (p + size d p)))
-    (Advance.Onward (State.Blocks (be32 d (p + 4)) (p + 8) (p + content d p) (p + size d p)))
-    (Advance.Item (settingsItem d p) (past d p))
-    (Advance.Onward (past d p))
+-- the step at a block, with the report's fields; the block of a report has 32 bytes
+abbrev pub blockStep : ℕ → ℕ → ℕ → ℕ → Block → Report → Advance
+blockStep sender at stop next Block.Report r =
+    Advance.Item (record { place = at; item = Item.Report r }) (State.Blocks sender (at + 32) stop next)
+blockStep sender at stop next (Block.Skipped bytes) r = Advance.Onward (State.Blocks sender (at + bytes) stop next)
+blockStep sender at stop next (Block.Refused number) r = Advance.End
 
--- `stop` lies behind the datagram, or less than a word is left before it
-abbrev pub torn : List ℕ → ℕ → ℕ → Bool
-torn d at stop = ltb (length d) stop || ltb (stop - at) 4
-
--- the item of a block, which gives one at most, and the cursor behind it
-abbrev pub offered : List Placed → State → Advance
-offered [] c = Advance.Onward c
-offered (x ∷ xs) c = Advance.Item x c
-
-abbrev pub unlessRefused : Check → Advance → Advance
-unlessRefused passed a = a
-unlessRefused (refused number place) a = Advance.End
-
--- one step over a packet's head, a source or a block
+-- one step, over a packet's head, a source or a block; behind the last of them comes the next packet
 unfoldable pub advance : List ℕ → State → Advance
-advance d (State.Packet p) = cond (ltb (length d - p) 4) Advance.End (cond (readable d p) (entered d p) Advance.End)
+advance d (State.Packet p) = packetStep d p (packetIs d p)
 advance d (State.Sources at stop next) =
-    cond (leb stop at) (Advance.Onward (State.Packet next))
-    (cond (torn d at stop) Advance.End
-    (Advance.Item (farewellItem d at) (State.Sources (at + 4) stop next)))
+    cond (leb stop at) (Advance.Onward (State.Packet next)) (sourceStep at stop next (sourceIs d stop at))
 advance d (State.Blocks sender at stop next) =
     cond (leb stop at) (Advance.Onward (State.Packet next))
-    (cond (torn d at stop) Advance.End
-    (unlessRefused (blockCheck d stop at)
-    (offered (blockItems d sender at) (State.Blocks sender (at + blockSize d at) stop next))))
+    (blockStep sender at stop next (blockIs d stop at) (reportAt d sender at))
 
 -- What is left to step over. Every step that gives no item makes it smaller: a step over a block by its bytes; the step
 -- from a packet's last part to the next packet by one; a step into a packet since its parts lie in it, and it counts

@@ -1,27 +1,24 @@
 // A cursor over the items of the datagram that it was opened on.
-use crate::bytes::read32;
-use crate::packet::Head;
-use crate::packet::is_short;
-use crate::packet::known_head;
-use crate::packet::packet_size;
-use crate::report::Block;
-use crate::report::block_at;
-use crate::report::report_at;
-use crate::settings::settings_at;
-use crate::walk::Count;
-use crate::walk::count_items;
+use datagram::Count;
+use datagram::count_items;
 use idms::Item;
 use idms::Placed;
 use idms::Refusal;
+use packet::BlockItem;
+use packet::Packet;
+use packet::PacketSettings;
+use packet::Source;
+use packet::block_item;
+use packet::packet_at;
+use packet::settings_at;
+use packet::source_at;
 ghost use mathlib.Core.Path.{_≡_};
-ghost use mathlib.Core.Bool.{true};
-ghost use Prim.Native.Nat.{_+_, _-_, _<_};
+ghost use Prim.Native.Nat.{_+_, _<_};
 ghost use lib.ListN.{length, getD};
-ghost use Rattle.rtcp.specs.Refusals.{passed};
-ghost use Rattle.rtcp.specs.Head.{headOf};
-ghost use Rattle.rtcp.specs.Datagram.{datagramCheck, datagramItems};
-ghost use Rattle.rtcp.specs.Cursor.{readable, entered, advance, torn, nextOf};
-ghost use Rattle.rtcp.specs.Answers.{nothing, openedOf};
+ghost use Rattle.packet.specs.Checks.{passed};
+ghost use Rattle.datagram.specs.Datagram.{datagramCheck, datagramItems};
+ghost use Rattle.rtcp.specs.Cursor.{advance, nextOf};
+ghost use Rattle.rtcp.specs.Answers.{nothing, cursorOn};
 
 // Where a walk over a datagram stands. Only `open_datagram` and `next_item` make one.
 pub struct Cursor {
@@ -56,63 +53,29 @@ pub(crate) enum Advance {
     End,
 }
 
-// A difference that stops at 0.
-fn minus(a: usize, b: usize) -> usize
-    ensures { λ r. ⌜ r ≡ a - b ⌝ }
-{
-    if a < b {
-        return 0;
-    }
-    a - b
-}
-
-// Whether `stop` lies behind the datagram, or less than a word is left before it.
-fn is_torn(d: &[u8], at: usize, stop: usize) -> bool
-    ensures { λ r. ⌜ r ≡ torn (now (d .entry)) at stop ⌝ }
-{
-    if d.len() < stop {
-        return true;
-    }
-    minus(stop, at) < 4
-}
-
-// Takes the packet at p, which is readable, apart by its type.
-fn enter(d: &[u8], p: usize, h: Head) -> Advance
-    requires { ⌜ (h ≡ headOf (now d) p) × (readable (now d) p ≡ true) ⌝ }
-    ensures { λ r. ⌜ r ≡ entered (now (d .entry)) p ⌝ }
-{
-    let kind = h.kind;
-    let next = p + h.bytes;
-    match kind {
-        203 => Advance::Onward(State::Sources(p + 4, p + (4 + 4 * h.count), next)),
-        207 => { Advance::Onward(State::Blocks(read32(d, p + 4), p + 8, p + h.content, next)) }
-        211 => Advance::Item(
-            Placed {
-                place: p,
-                item: Item::Settings(settings_at(d, p)),
-            },
-            State::Packet(next),
-        ),
-        0..=202 | 204..=206 | 208..=210 | 212..=255 => Advance::Onward(State::Packet(next)),
-    }
-}
-
-// A step at a packet.
+// A step at a packet, by what it holds.
 fn at_packet(d: &[u8], p: usize) -> Advance
     ensures { λ r. ⌜ r ≡ advance (now (d .entry)) (State.Packet p) ⌝ }
 {
-    if minus(d.len(), p) < 4 {
-        return Advance::End;
+    match packet_at(d, p) {
+        Packet::Unread(next) => Advance::Onward(State::Packet(next)),
+        Packet::Sources(first, stop, next) => { Advance::Onward(State::Sources(first, stop, next)) }
+        Packet::Blocks(sender, first, stop, next) => {
+            Advance::Onward(State::Blocks(sender, first, stop, next))
+        }
+        Packet::Settings(next) => match settings_at(d, p) {
+            // Never reached: the packet is readable.
+            PacketSettings::Outside => Advance::End,
+            PacketSettings::Fields(s) => Advance::Item(
+                Placed {
+                    place: p,
+                    item: Item::Settings(s),
+                },
+                State::Packet(next),
+            ),
+        },
+        Packet::Unreadable => Advance::End,
     }
-    let bytes = packet_size(d, p);
-    if d.len() < p + bytes {
-        return Advance::End;
-    }
-    let h = known_head(d, p, bytes);
-    if is_short(h.kind, h.count, h.content) {
-        return Advance::End;
-    }
-    enter(d, p, h)
 }
 
 // A step at a source.
@@ -122,16 +85,16 @@ fn at_source(d: &[u8], at: usize, stop: usize, next: usize) -> Advance
     if stop <= at {
         return Advance::Onward(State::Packet(next));
     }
-    if is_torn(d, at, stop) {
-        return Advance::End;
+    match source_at(d, at, stop) {
+        Source::Outside => Advance::End,
+        Source::Number(source) => Advance::Item(
+            Placed {
+                place: at,
+                item: Item::Farewell(source),
+            },
+            State::Sources(at + 4, stop, next),
+        ),
     }
-    Advance::Item(
-        Placed {
-            place: at,
-            item: Item::Farewell(read32(d, at)),
-        },
-        State::Sources(at + 4, stop, next),
-    )
 }
 
 // A step at a block.
@@ -141,25 +104,18 @@ fn at_block(d: &[u8], sender: u32, at: usize, stop: usize, next: usize) -> Advan
     if stop <= at {
         return Advance::Onward(State::Packet(next));
     }
-    if is_torn(d, at, stop) {
-        return Advance::End;
-    }
-    match block_at(d, at, stop) {
-        Block::Refused(_) => Advance::End,
-        Block::Other(bytes) => Advance::Onward(State::Blocks(sender, at + bytes, stop, next)),
-        Block::Idms(items) => {
-            let behind = State::Blocks(sender, at + 32, stop, next);
-            if items == 0 {
-                return Advance::Onward(behind);
-            }
-            Advance::Item(
-                Placed {
-                    place: at,
-                    item: Item::Report(report_at(d, sender, at)),
-                },
-                behind,
-            )
+    match block_item(d, sender, at, stop) {
+        BlockItem::Refused(_) => Advance::End,
+        BlockItem::Skipped(bytes) => {
+            Advance::Onward(State::Blocks(sender, at + bytes, stop, next))
         }
+        BlockItem::Report(r) => Advance::Item(
+            Placed {
+                place: at,
+                item: Item::Report(r),
+            },
+            State::Blocks(sender, at + 32, stop, next),
+        ),
     }
 }
 
@@ -175,7 +131,7 @@ fn stepped(d: &[u8], c: State) -> Advance
 }
 
 // The next item of the datagram that the cursor was opened on and the cursor behind it, or the end. With another
-// datagram it gives what can be read there, which may be an item of one that is refused: no check is asked again.
+// datagram it gives what can be read there, which may be an item of one that is refused: not all checks are made again.
 pub fn next_item(d: &[u8], from: Cursor) -> Step
     ensures { λ r. ⌜ r ≡ nextOf (now (d .entry)) from ⌝ }
 {
@@ -197,7 +153,7 @@ pub fn next_item(d: &[u8], from: Cursor) -> Step
 
 // Checks a datagram, and puts a cursor before its first item.
 pub fn open_datagram(d: &[u8]) -> Opened
-    ensures { λ r. ⌜ r ≡ openedOf (now (d .entry)) ⌝ }
+    ensures { λ r. ⌜ r ≡ cursorOn (now (d .entry)) ⌝ }
 {
     match count_items(d) {
         Count::Refused(r) => Opened::Refused(r),

@@ -3,20 +3,16 @@
 // breaks a rule is refused: it has no count, no item at an index, no rows, and no cursor is opened on it. A cursor is
 // for the datagram that it was opened on; nothing ties it to that one, and passed with another it gives what it can
 // read there, also where that datagram is refused.
-mod bytes;
 mod cursor;
-mod packet;
-mod report;
+mod item;
 mod rows;
-mod settings;
-mod walk;
 
 pub use cursor::Cursor;
 pub use cursor::Opened;
 pub use cursor::Step;
 pub use cursor::next_item;
 pub use cursor::open_datagram;
-pub use rows::read_rows;
-pub use walk::Count;
-pub use walk::count_items;
-pub use walk::item_at;
+pub use datagram::Count;
+pub use datagram::count_items;
+pub use item::item_at;
+pub use rows::read_items;

@@ -1,28 +1,31 @@
 // All items of a datagram in a lent array of numbers, a row an item. The datagram is checked and counted first; the
-// second pass fills and checks nothing again.
-use crate::bytes::read16;
-use crate::bytes::read32;
-use crate::packet::known_head;
-use crate::packet::packet_size;
-use crate::report::is_report;
-use crate::report::report_at;
-use crate::settings::settings_at;
-use crate::walk::Count;
-use crate::walk::count_items;
+// second pass fills.
+use datagram::Count;
+use datagram::count_items;
 use idms::Item;
 use idms::Placed;
 use idms::Refusal;
+use packet::Block;
+use packet::BlockReport;
+use packet::Packet;
+use packet::PacketSettings;
+use packet::Source;
+use packet::block_at;
+use packet::packet_at;
+use packet::report_at;
+use packet::settings_at;
+use packet::source_at;
+use refusals::SHORT_BUFFER;
 ghost use mathlib.Core.Path.{_≡_};
 ghost use Prim.Native.Nat.{_+_, _-_, _*_, _%_, _≤_};
 ghost use lib.ListN.{length};
 ghost use lib.Seq.{paste};
 ghost use Rattle.idms.specs.Rows.{rowOf};
-ghost use Rattle.rtcp.specs.Refusals.{passed};
-ghost use Rattle.rtcp.specs.Bytes.{be32};
-ghost use Rattle.rtcp.specs.Datagram.{sourceItems, blocksCheck, blocksItems, packetCheck, packetItems, datagramCheck, datagramItems};
-ghost use Rattle.rtcp.specs.Rows.{put, rowsAnswer, rowsAfter};
-
-const SHORT_BUFFER: u64 = 10;
+ghost use Rattle.packet.specs.Checks.{passed};
+ghost use Rattle.packet.specs.Contents.{contents};
+ghost use Rattle.datagram.specs.Datagram.{sourceItems, blocksCheck, blocksItems, packetCheck, packetItems};
+ghost use Rattle.datagram.specs.Datagram.{datagramCheck, datagramItems};
+ghost use Rattle.rtcp.specs.Rows.{put, HasRoom, ArePut, behind, rowsAnswer, rowsAfter};
 
 // Puts an item's row at a cell.
 fn put_row(rows: &mut [u64], at: usize, x: Placed)
@@ -39,97 +42,146 @@ fn put_row(rows: &mut [u64], at: usize, x: Placed)
 
 // Puts a row for each source from a place up to a stop, and answers the cell behind them.
 fn fill_sources(d: &[u8], rows: &mut [u64], at: usize, from: usize, stop: usize) -> usize
-    requires { ⌜ (stop ≤ length (now d)) × ((stop - from) % 4 ≡ 0) × (at + 10 * length (sourceItems (now d) stop from) ≤ length (now rows)) ⌝ }
-    ensures { λ r. ⌜ (r ≡ at + 10 * length (sourceItems (now (d .entry)) stop from)) × (now (rows .exit) ≡ put (now (rows .entry)) at (sourceItems (now (d .entry)) stop from)) ⌝ }
+    requires { ⌜ (stop ≤ length (now d)) × ((stop - from) % 4 ≡ 0)
+        × HasRoom (now rows) at (sourceItems (now d) stop from) ⌝ }
+    ensures { λ r. ⌜ ArePut (now (rows .entry)) at (sourceItems (now (d .entry)) stop from) r (now (rows .exit)) ⌝ }
 {
     let mut k = from;
     let mut cell = at;
     while k < stop {
-        put_row(
-            rows,
-            cell,
-            Placed {
-                place: k,
-                item: Item::Farewell(read32(d, k)),
-            },
-        );
-        cell += 10;
-        k += 4;
+        match source_at(d, k, stop) {
+            Source::Outside => {
+                // Never reached: `stop` lies in the datagram.
+                return cell;
+            }
+            Source::Number(source) => {
+                put_row(
+                    rows,
+                    cell,
+                    Placed {
+                        place: k,
+                        item: Item::Farewell(source),
+                    },
+                );
+                cell += 10;
+                k += 4;
+            }
+        }
     }
     cell
 }
 
-// Puts a row for each report of the XR packet at p, whose blocks have passed, and answers the cell behind them.
-fn fill_blocks(d: &[u8], rows: &mut [u64], at: usize, p: usize, content: usize) -> usize
-    requires { ⌜ (8 ≤ content) × (content % 4 ≡ 0) × (p + content ≤ length (now d)) × (blocksCheck (now d) (p + content) (p + 8) ≡ passed) × (at + 10 * length (blocksItems (now d) (be32 (now d) (p + 4)) (p + content) (p + 8)) ≤ length (now rows)) ⌝ }
-    ensures { λ r. ⌜ (r ≡ at + 10 * length (blocksItems (now (d .entry)) (be32 (now (d .entry)) (p + 4)) (p + content) (p + 8))) × (now (rows .exit) ≡ put (now (rows .entry)) at (blocksItems (now (d .entry)) (be32 (now (d .entry)) (p + 4)) (p + content) (p + 8))) ⌝ }
+// Puts a row for each report of the blocks from a place up to a stop, which have passed, and answers the cell behind
+// them.
+fn fill_blocks(
+    d: &[u8],
+    rows: &mut [u64],
+    at: usize,
+    sender: u32,
+    from: usize,
+    stop: usize,
+) -> usize
+    requires { ⌜ (blocksCheck (now d) stop from ≡ passed)
+        × HasRoom (now rows) at (blocksItems (now d) sender stop from) ⌝ }
+    ensures { λ r. ⌜ ArePut (now (rows .entry)) at (blocksItems (now (d .entry)) sender stop from) r
+        (now (rows .exit)) ⌝ }
 {
-    let sender = read32(d, p + 4);
-    let stop = p + content;
-    let mut k = p + 8;
+    let mut place = from;
     let mut cell = at;
-    while k < stop {
-        let here = k;
-        if is_report(d[here], d[here + 1] / 16) {
-            put_row(
-                rows,
-                cell,
-                Placed {
-                    place: here,
-                    item: Item::Report(report_at(d, sender, here)),
-                },
-            );
-            cell += 10;
-            k = here + 32;
-        } else {
-            k = here + 4 * (read16(d, here + 2) + 1);
+    while place < stop {
+        match block_at(d, place, stop) {
+            Block::Refused(_) => {
+                // Never reached: the blocks have passed.
+                return cell;
+            }
+            Block::Skipped(bytes) => {
+                place += bytes;
+            }
+            Block::Report => match report_at(d, sender, place) {
+                BlockReport::Outside => {
+                    // Never reached: the block lies in the datagram.
+                    return cell;
+                }
+                BlockReport::Fields(r) => {
+                    put_row(
+                        rows,
+                        cell,
+                        Placed {
+                            place,
+                            item: Item::Report(r),
+                        },
+                    );
+                    cell += 10;
+                    place += 32;
+                }
+            },
         }
     }
     cell
 }
 
-// Puts the rows of the packet at p, which has passed, and answers the cell behind them.
-fn fill_packet(d: &[u8], rows: &mut [u64], at: usize, p: usize) -> usize
-    requires { ⌜ (p + 4 ≤ length (now d)) × (packetCheck (now d) p ≡ passed) × (at + 10 * length (packetItems (now d) p) ≤ length (now rows)) ⌝ }
-    ensures { λ r. ⌜ (r ≡ at + 10 * length (packetItems (now (d .entry)) p)) × (now (rows .exit) ≡ put (now (rows .entry)) at (packetItems (now (d .entry)) p)) ⌝ }
+// Puts the rows of the packet at p, which has passed and holds x, and answers the cell behind them.
+fn fill_packet(d: &[u8], rows: &mut [u64], at: usize, p: usize, x: Packet) -> usize
+    requires { ⌜ (x ≡ contents (now d) p) × (packetCheck (now d) p ≡ passed)
+        × HasRoom (now rows) at (packetItems (now d) p) ⌝ }
+    ensures { λ r. ⌜ ArePut (now (rows .entry)) at (packetItems (now (d .entry)) p) r (now (rows .exit)) ⌝ }
 {
-    let h = known_head(d, p, packet_size(d, p));
-    let kind = h.kind;
-    match kind {
-        203 => fill_sources(d, rows, at, p + 4, p + (4 + 4 * h.count)),
-        207 => fill_blocks(d, rows, at, p, h.content),
-        211 => {
-            put_row(
-                rows,
-                at,
-                Placed {
-                    place: p,
-                    item: Item::Settings(settings_at(d, p)),
-                },
-            );
-            at + 10
-        }
-        0..=202 | 204..=206 | 208..=210 | 212..=255 => at,
+    match x {
+        Packet::Unread(_) => at,
+        Packet::Sources(first, stop, _) => fill_sources(d, rows, at, first, stop),
+        Packet::Blocks(sender, first, stop, _) => fill_blocks(d, rows, at, sender, first, stop),
+        Packet::Settings(_) => match settings_at(d, p) {
+            // Never reached: the packet has passed.
+            PacketSettings::Outside => at,
+            PacketSettings::Fields(s) => {
+                put_row(
+                    rows,
+                    at,
+                    Placed {
+                        place: p,
+                        item: Item::Settings(s),
+                    },
+                );
+                at + 10
+            }
+        },
+        Packet::Unreadable => at,
+    }
+}
+
+// The place of the packet behind.
+fn next_place(x: Packet) -> usize
+    ensures { λ r. ⌜ r ≡ behind x ⌝ }
+{
+    match x {
+        Packet::Unread(next) => next,
+        Packet::Sources(_, _, next) => next,
+        Packet::Blocks(_, _, _, next) => next,
+        Packet::Settings(next) => next,
+        Packet::Unreadable => 0,
     }
 }
 
 // Puts the rows of a datagram's n items at the front, and walks no further than the last of them.
 fn fill_rows(d: &[u8], rows: &mut [u64], n: usize)
-    requires { ⌜ (datagramCheck (now d) ≡ passed) × (n ≡ length (datagramItems (now d))) × (10 * n ≤ length (now rows)) ⌝ }
+    requires { ⌜ (datagramCheck (now d) ≡ passed)
+        × (n ≡ length (datagramItems (now d))) × (10 * n ≤ length (now rows)) ⌝ }
     ensures { λ _. ⌜ now (rows .exit) ≡ put (now (rows .entry)) 0 (datagramItems (now (d .entry))) ⌝ }
 {
     let end = 10 * n;
     let mut p: usize = 0;
     let mut cell: usize = 0;
     while cell < end {
-        cell = fill_packet(d, rows, cell, p);
-        p += packet_size(d, p);
+        let x = packet_at(d, p);
+        cell = fill_packet(d, rows, cell, p, x);
+        p = next_place(x);
     }
 }
 
 // Checks first and fills then: after any refusal, or where the array is too short, it is as before.
-pub fn read_rows(d: &[u8], rows: &mut [u64]) -> Count
-    ensures { λ r. ⌜ (r ≡ rowsAnswer (now (d .entry)) (now (rows .entry))) × (now (rows .exit) ≡ rowsAfter (now (d .entry)) (now (rows .entry))) ⌝ }
+pub fn read_items(d: &[u8], rows: &mut [u64]) -> Count
+    ensures { λ r. ⌜ (r ≡ rowsAnswer (now (d .entry)) (now (rows .entry)))
+        × (now (rows .exit) ≡ rowsAfter (now (d .entry)) (now (rows .entry))) ⌝ }
 {
     match count_items(d) {
         Count::Refused(r) => Count::Refused(r),

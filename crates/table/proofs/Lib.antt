@@ -1,8 +1,2 @@
-pub mod Seats
 pub mod Agreement
-pub mod Places
-pub mod Cases
-pub mod Words
-pub mod Leader
-pub mod Leading
-pub mod Biased
+pub mod Laws

@@ -1,16 +1,18 @@
 -- What opening and the three calls answer, and the table that they hand back, for every table whatsoever.
-use Prim.Native.Nat.{ℕ, _+_, _-_, _^_}
+use Prim.Native.Nat.{ℕ}
 use mathlib.Core.Bool.{Bool, not, cond, _&&_}
 use lib.Dec.{ltb, eqb}
 use lib.ListN.{getD, set}
 use Rattle.origin.specs.declared.Origin.{Origin}
 use Rattle.origin.specs.Origins.{sameOrigin}
-use Rattle.places.specs.Places.{lowestFree}
+use Rattle.refusals.specs.Refusals.{badOpening}
+use Rattle.places.specs.Places.{lowestFree, withPlace, withoutPlace}
 use Rattle.register.specs.declared.Record.{Record}
 use Rattle.register.specs.Register.{Opening, Rows, Call, isRefusedOpening, reportChecks, farewellChecks, freshAt}
+use Rattle.choosing.specs.Marked.{nowhere, filterWord}
 use Rattle.table.specs.declared.Table.{Table}
 use Rattle.table.specs.declared.Answered.{Answered}
-use Rattle.table.specs.Members.{openingOf, emptyTable, nowhere, placeIn, keepWord}
+use Rattle.table.specs.Members.{openingOf, emptyTable, placeIn}
 
 -- what stands for no table beside a 12: an empty one for group 0, which no opening is taken for. It is no refusal in
 -- itself, since it takes reports of group 0: the number is to be looked at first.
@@ -19,7 +21,9 @@ noTable = emptyTable (record { group = 0; media = 0; rate = 0 })
 
 -- refused with 12, opening gives no table
 unfoldable pub opened : Opening → Answered
-opened o = cond (isRefusedOpening o) (record { number = 12; table = noTable }) (record { number = 0; table = emptyTable o })
+opened o =
+    cond (isRefusedOpening o) (record { number = badOpening; table = noTable })
+    (record { number = 0; table = emptyTable o })
 
 -- ---- a number's place
 
@@ -66,21 +70,18 @@ withMember t place x =
 unfoldable pub filed : Table → Record → Table
 filed t x =
     cond (isMember t (x .source)) (withMember t (placeIn t (x .source)) x)
-    (withMember (withHeld t (t .held + 2 ^ lowestFree 64 (t .held))) (lowestFree 64 (t .held)) x)
+    (withMember (withHeld t (withPlace (t .held) (lowestFree 64 (t .held)))) (lowestFree 64 (t .held)) x)
 
+-- the table that an accepted call leaves
 abbrev pub acceptedBy : Table → Call → Table
 acceptedBy t (Call.report x at) = filed t x
-acceptedBy t (Call.farewell source origin) = withHeld t (t .held - 2 ^ placeIn t source)
-acceptedBy t (Call.sweep at) = withHeld t (keepWord (freshAt (openingOf t) at) (t .held) (t .members))
+acceptedBy t (Call.farewell source origin) = withHeld t (withoutPlace (t .held) (placeIn t source))
+acceptedBy t (Call.sweep at) = withHeld t (filterWord (freshAt (openingOf t) at) (t .held) (t .members))
 
--- what a refusal leaves, whatever the number and the call: the table as it was
-abbrev pub refusedBy : Table → ℕ → Call → Table
-refusedBy t number call = t
-
--- the answer with the table afterwards
+-- the answer with the table afterwards: refused, a call changes nothing
 unfoldable pub answered : Table → Call → Answered
 answered t call =
     record {
       number = numberOf t call;
-      table = cond (eqb (numberOf t call) 0) (acceptedBy t call) (refusedBy t (numberOf t call) call);
+      table = cond (eqb (numberOf t call) 0) (acceptedBy t call) t;
     }

@@ -2,14 +2,17 @@
 -- one before handed back.
 --
 -- To be believed, besides this file:
+--   of `refusals` Refusals: the numbers;
 --   of `times` Times: ages, delay, expanded presentation, fresh;
+--   of `origin` Origins, for the plain register alone;
 --   of `register` the records (src/lib.rt); Letter: members, twins and what each answer means; Choosing and Promise:
 --   what is chosen and what is promised of it; of Register `Opening`, `Call` and what Choosing and Promise use. The
 --   rest of Register is the papers' plain register, believed for the sentence that answers and members are its own.
--- No belief needs what the contracts tie to code: `opened`, `answered`, `chosenOf`, `seatAt` and `countOf` stand here
--- as what `Table::open`, `report`, `farewell`, `sweep`, `choose`, `member_at` and `count` answer, whatever that is; nor
--- what lies below them (Members, Calls, Choose, Leader, Lateness). `opening` and `members` of `Agree` look into the
--- table for the proofs above; the fields behind them say the same of the public calls.
+-- No belief needs what the contracts tie to code: `opened`, `answered`, `chosenOf`, `placeAt` and `memberCount` stand
+-- here as what `Table::open`, `report`, `farewell`, `sweep`, `choose`, `member_at` and `count_members` answer, whatever
+-- that is; nor what lies below them (Members, Calls and Choose here, all of `choosing` and `places`). `opening` and
+-- `members` of `Agree` look into the table for the proofs above; the fields behind them say the same of the public
+-- calls.
 use Prim.Native.Nat.{ℕ, _<_}
 use mathlib.Core.Path.{_≡_}
 use mathlib.Core.List.{List, [], _∷_, List·Memᴰ, List·Permᴰ}
@@ -21,7 +24,7 @@ use Rattle.register.specs.Choosing.{choice}
 use Rattle.register.specs.Promise.{Unique, AllInRange, Promised}
 use Rattle.register.specs.Letter.{History, history, madeIn, BadOpening, openingLines, Means, Letter}
 use Rattle.table.specs.declared.Table.{Table}
-use Rattle.table.specs.Members.{openingOf, membersOf, countOf, seatAt}
+use Rattle.table.specs.Members.{openingOf, membersOf, memberCount, placeAt}
 use Rattle.table.specs.Calls.{opened, answered}
 use Rattle.table.specs.Choose.{chosenOf}
 
@@ -37,7 +40,7 @@ tableFrom t (call ∷ calls) = tableFrom (answered t call .table) calls
 
 -- a table shows x: it is the member at one of the 64 places
 abbrev pub Shows : Table → Record → Type 0
-Shows t x = (place : ℕ) × (place < 64) × (seatAt t place ≡ record { held = 1; member = x })
+Shows t x = (place : ℕ) × (place < 64) × (placeAt t place ≡ record { held = 1; member = x })
 
 -- x is shown after the calls of a history
 abbrev pub IsShown : Opening → History → Record → Type 0
@@ -63,14 +66,14 @@ pub record Agree (o : Opening) (t : Table) (rows : Rows) : Type 0 where
   pub own : (row : Record) → List·Memᴰ row rows → (row .report .group ≡ o .group) × (row .report .media ≡ o .media)
   -- as the public calls show them: the count is that of the rows, a place that is not shown free shows a row, each row
   -- is shown, and no number at two places
-  pub count : countOf t ≡ length rows
-  pub seats :
-      (place : ℕ) → (seatAt t place .held ≡ 0 → ⊥) →
-      (seatAt t place .held ≡ 1) × List·Memᴰ (seatAt t place .member) rows
-  pub seated : (row : Record) → List·Memᴰ row rows → Shows t row
+  pub count : memberCount t ≡ length rows
+  pub places :
+      (place : ℕ) → (placeAt t place .held ≡ 0 → ⊥) →
+      (placeAt t place .held ≡ 1) × List·Memᴰ (placeAt t place .member) rows
+  pub placed : (row : Record) → List·Memᴰ row rows → Shows t row
   pub once :
-      (p q : ℕ) → seatAt t p .held ≡ 1 → seatAt t q .held ≡ 1 →
-      seatAt t p .member .source ≡ seatAt t q .member .source → p ≡ q
+      (p q : ℕ) → placeAt t p .held ≡ 1 → placeAt t q .held ≡ 1 →
+      placeAt t p .member .source ≡ placeAt t q .member .source → p ≡ q
 
 -- what demand 3 says of a table, the rows and the calls that left them
 pub record Demand3 (o : Opening) (calls : List Call) (t : Table) (rows : Rows) : Type 0 where

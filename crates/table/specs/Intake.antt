@@ -1,9 +1,8 @@
--- The intake: a report or a farewell is taken out of what the reader gives at an index, and is a call under its origin and
--- reading. Other items are passed by.
-use Rattle.idms.specs.declared.Found.{Found}
+-- The intake: a report or a farewell is taken out of an item, and is a call under its origin and reading. Other items
+-- are passed by.
 use Rattle.idms.specs.declared.Item.{Item}
 use Rattle.idms.specs.declared.Report.{Report}
-use Rattle.idms.specs.Rows.{bit}
+use Rattle.idms.specs.Rows.{flag}
 use Rattle.origin.specs.declared.Origin.{Origin}
 use Rattle.register.specs.declared.Record.{Record}
 use Rattle.register.specs.declared.Reading.{Reading}
@@ -26,18 +25,15 @@ recordOf r origin =
         rtp = r .rtp;
         presented = r .presented;
         «payload_type» = r .«payload_type»;
-        p = bit (r .p);
+        p = flag (r .p);
       };
     }
 
-abbrev pub called : Table → Call → Taken
-called t call = record { outcome = Outcome.Number (answered t call .number); table = answered t call .table }
+-- what a call answers, as an item's outcome
+abbrev pub callTaken : Table → Call → Taken
+callTaken t call = record { outcome = Outcome.Number (answered t call .number); table = answered t call .table }
 
-abbrev pub itemTaken : Table → Item → Origin → Reading → Taken
-itemTaken t (Item.Report r) origin at = called t (Call.report (recordOf r origin) at)
-itemTaken t (Item.Farewell source) origin at = called t (Call.farewell source origin)
-itemTaken t (Item.Settings s) origin at = record { outcome = Outcome.Passed; table = t }
-
-unfoldable pub taken : Table → Found → Origin → Reading → Taken
-taken t (Found.Item x) origin at = itemTaken t (x .item) origin at
-taken t (Found.Refused r) origin at = record { outcome = Outcome.Unread r; table = t }
+unfoldable pub taken : Table → Item → Origin → Reading → Taken
+taken t (Item.Report r) origin at = callTaken t (Call.report (recordOf r origin) at)
+taken t (Item.Farewell source) origin at = callTaken t (Call.farewell source origin)
+taken t (Item.Settings s) origin at = record { outcome = Outcome.Passed; table = t }

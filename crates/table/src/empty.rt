@@ -1,9 +1,9 @@
 // What stands for nothing: a record of zeros, a place without a member, a table without members.
-use crate::Seat;
+use crate::Place;
 use crate::Table;
 use origin::Origin;
 use register::Record;
-use register::Standing;
+use register::ReportFields;
 ghost use mathlib.Core.Path.{_≡_};
 ghost use Rattle.table.specs.Members.{vacant, emptyTable};
 
@@ -17,7 +17,7 @@ fn vacant_record() -> Record
             address: [0u8; 16],
             port: 0,
         },
-        report: Standing {
+        report: ReportFields {
             received: 0,
             group: 0,
             media: 0,
@@ -30,10 +30,10 @@ fn vacant_record() -> Record
 }
 
 // No member.
-pub(crate) fn vacant_seat() -> Seat
+pub(crate) fn free_place() -> Place
     ensures { λ r. ⌜ r ≡ record { held = 0; member = vacant } ⌝ }
 {
-    Seat {
+    Place {
         held: 0,
         member: vacant_record(),
     }

@@ -1,45 +1,41 @@
 // The member table of one synchronization group: 64 places, and one word that marks those held.
-mod checks;
-mod choose;
 mod empty;
 mod search;
-mod word;
 
-use checks::BAD_OPENING;
-use checks::NO_MEMBER;
-use checks::OTHER_ORIGIN;
 use checks::is_refused_opening;
-use checks::is_without_room;
 use checks::report_number;
-use choose::choice_at;
-use choose::marks_at;
+use choosing::choice_at;
+use choosing::marks_at;
 use empty::empty_table;
-use empty::vacant_seat;
-use idms::Found;
+use empty::free_place;
 use idms::Item;
-use idms::Refusal;
 use idms::Report;
 use origin::Origin;
 use places::count_held;
+use places::is_held;
 use places::lowest_free;
+use places::with_place;
+use places::without_place;
+use refusals::BAD_OPENING;
+use refusals::NO_MEMBER;
+use refusals::OTHER_ORIGIN;
 use register::Choice;
 use register::Reading;
 use register::Record;
-use register::Standing;
+use register::ReportFields;
 use search::is_elsewhere;
+use search::is_without_room;
 use search::member_of;
 use search::place_of;
-use word::digit_at;
-use word::is_held;
 ghost use mathlib.Core.Path.{_≡_};
 ghost use mathlib.Core.Bool.{false};
 ghost use Rattle.register.specs.Register.{Call};
-ghost use Rattle.table.specs.Members.{placeIn, countOf, seatAt};
+ghost use Rattle.table.specs.Members.{placeIn, memberCount, placeAt};
 ghost use Rattle.table.specs.Calls.{opened, isWithoutRoom, filed, answered};
 ghost use Rattle.table.specs.Choose.{chosenOf};
-ghost use Rattle.table.specs.Intake.{recordOf, itemTaken, taken};
+ghost use Rattle.table.specs.Intake.{recordOf, taken};
 
-// A table for one group, media source and clock rate. The lowest digit of `held` marks the first place.
+// A table for one group, media source and clock rate. The lowest bit of `held` marks the first place.
 #[repr(C)]
 pub struct Table {
     group: u32,
@@ -64,19 +60,17 @@ pub struct Chosen {
 
 // The member at a place: `held` is 1 and `member` the member, or `held` is 0 and `member` a record of zeros.
 #[repr(C)]
-pub struct Seat {
+pub struct Place {
     pub held: u32,
     pub member: Record,
 }
 
-// What became of what the reader gave at an index.
+// What became of an item.
 pub enum Outcome {
     // A report or a farewell: the number of its call, 0 where that was accepted.
     Number(u64),
     // Another item, which is passed by.
     Passed,
-    // No item, but the reader's refusal.
-    Unread(Refusal),
 }
 
 // What became of an item, and the table afterwards.
@@ -103,7 +97,7 @@ fn record_of(r: Report, origin: Origin) -> Record
     Record {
         source: r.sender,
         origin,
-        report: Standing {
+        report: ReportFields {
             received: r.received,
             group: r.group,
             media: r.media,
@@ -144,7 +138,7 @@ impl Table {
             return next;
         }
         let free = lowest_free(held) as usize;
-        next.held = held + digit_at(free);
+        next.held = with_place(held, free);
         next.members[free] = x;
         next
     }
@@ -192,7 +186,7 @@ impl Table {
             };
         }
         let mut next = self;
-        next.held = held - digit_at(place);
+        next.held = without_place(held, place);
         Answered {
             number: 0,
             table: next,
@@ -226,30 +220,30 @@ impl Table {
     }
 
     // How many members there are.
-    pub fn count(self) -> u32
-        ensures { λ r. ⌜ r ≡ countOf self ⌝ }
+    pub fn count_members(self) -> u32
+        ensures { λ r. ⌜ r ≡ memberCount self ⌝ }
     {
         count_held(self.held)
     }
 
     // The member at a place, if there is one.
-    pub fn member_at(self, place: usize) -> Seat
-        ensures { λ r. ⌜ r ≡ seatAt self place ⌝ }
+    pub fn member_at(self, place: usize) -> Place
+        ensures { λ r. ⌜ r ≡ placeAt self place ⌝ }
     {
         let held = self.held;
         let members = self.members;
         if !is_held(held, place) {
-            return vacant_seat();
+            return free_place();
         }
-        Seat {
+        Place {
             held: 1,
             member: member_of(members, place),
         }
     }
 
-    // An item under its origin and reading: a report or a farewell is called, settings are passed by.
-    fn intake_item(self, item: Item, origin: Origin, at: Reading) -> Taken
-        ensures { λ r. ⌜ r ≡ itemTaken self item origin at ⌝ }
+    // An item under its origin and reading: a report or a farewell is a call, other items are passed by.
+    pub fn intake(self, item: Item, origin: Origin, at: Reading) -> Taken
+        ensures { λ r. ⌜ r ≡ taken self item origin at ⌝ }
     {
         let Item::Report(report) = item else {
             let Item::Farewell(source) = item else {
@@ -261,21 +255,5 @@ impl Table {
             return numbered(self.farewell(source, origin));
         };
         numbered(self.report(record_of(report, origin), at))
-    }
-
-    // What the reader gives at an index, under its datagram's origin and reading.
-    pub fn intake(self, found: Found, origin: Origin, at: Reading) -> Taken
-        ensures { λ r. ⌜ r ≡ taken self found origin at ⌝ }
-    {
-        match found {
-            Found::Item(x) => {
-                let item = x.item;
-                self.intake_item(item, origin, at)
-            }
-            Found::Refused(r) => Taken {
-                outcome: Outcome::Unread(r),
-                table: self,
-            },
-        }
     }
 }

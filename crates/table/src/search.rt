@@ -1,15 +1,17 @@
-// Where a number's member stands, and what is at a place.
+// Where a number's member stands, what is at a place, and whether there is room.
 use origin::Origin;
 use origin::same_origin;
+use places::lowest_free;
 use register::Record;
 ghost use mathlib.Core.Path.{_≡_};
-ghost use mathlib.Core.Bool.{true, not, _&&_};
+ghost use mathlib.Core.Bool.{not, _&&_};
 ghost use Prim.Native.Nat.{_≤_, _<_};
 ghost use lib.Dec.{eqb};
 ghost use lib.ListN.{getD};
-ghost use Rattle.places.specs.Places.{isFree, isHeld};
-ghost use Rattle.table.specs.Members.{nowhere, placeOf};
-ghost use Rattle.table.specs.Calls.{elsewhereAt};
+ghost use Rattle.places.specs.Places.{isFree};
+ghost use Rattle.choosing.specs.Marked.{nowhere};
+ghost use Rattle.table.specs.Members.{placeOf};
+ghost use Rattle.table.specs.Calls.{elsewhereAt, noRoomAt};
 
 // Whether the word's first place is held, by a member of this number.
 fn is_held_by(word: u64, number: u32, source: u32) -> bool
@@ -23,7 +25,7 @@ fn is_held_by(word: u64, number: u32, source: u32) -> bool
 
 // The place of the member with a number, which is held, or 64 where none has it.
 pub(crate) fn place_of(held: u64, members: [Record; 64], source: u32) -> usize
-    ensures { λ r. ⌜ (r ≡ placeOf source held members) × (r ≤ 64) × (r < 64 → isHeld r held ≡ true) ⌝ }
+    ensures { λ r. ⌜ r ≡ placeOf source held members ⌝ }
 {
     let mut word = held;
     let mut i: usize = 0;
@@ -54,4 +56,14 @@ pub(crate) fn is_elsewhere(members: [Record; 64], place: usize, origin: Origin) 
     }
     let there = members[place];
     !same_origin(there.origin, origin)
+}
+
+// Whether a source without a place finds all places held.
+pub(crate) fn is_without_room(place: usize, held: u64) -> bool
+    ensures { λ r. ⌜ r ≡ noRoomAt place held ⌝ }
+{
+    if place < 64 {
+        return false;
+    }
+    lowest_free(held) == 64
 }

@@ -1,12 +1,32 @@
--- Laws of times. Those of `step` and `delay-of-step` hang on a step of 0 being a full turn; `delay-positive`, `delay-bound` and
--- `expanded-by-delay` say only what holds of any presentation after arrival.
+-- Laws of times. Those of `step` and `delay-of-step` hang on a step of 0 being a full turn; `delay-positive`,
+-- `delay-bound` and `expanded-by-delay` say only what holds of any presentation after arrival.
 use Prim.Native.Nat.{ℕ, _+_, _-_, _*_, _/_, _%_, _^_, _≤_, _<_}
 use mathlib.Core.Path.{_≡_, refl, sym, ap, _∙_}
 use mathlib.Core.Bool.{Bool, true, false}
 use lib.Dec.{eqb}
+use native.Mathlib.Nat.{add-mod-right, mod-eq-of-lt}
 use native.Mathlib.Omega.{arith}
 use borrow.Author.Tests.{eqb-false, eq-eqb, ne-eqb}
-use Rattle.times.specs.Times.{minus, middle, fullTurn, step, unwrapped, expanded, delay}
+use Rattle.times.specs.Times.{differenceMod, middle, fullTurn, step, unwrapped, expanded, delay}
+
+-- ---- ages, of any width: the difference, or what is left of 2^width where it wraps
+
+module _ (width a b : ℕ) where
+  pub difference-plain : b ≤ a → a < 2 ^ width → a - b ≡ differenceMod width a b
+  unfolding differenceMod
+  difference-plain h k =
+      let m : ℕ = 2 ^ width in
+      let turn : a - b + m ≡ a + m - b = omega arith in
+      let below : a - b < m = omega arith in
+      sym (mod-eq-of-lt below) ∙ sym (add-mod-right (a - b) m) ∙ ap (λ (n : ℕ). n % m) turn
+
+  pub difference-wrapped : a < b → b < 2 ^ width → 2 ^ width - 1 - (b - a) + 1 ≡ differenceMod width a b
+  unfolding differenceMod
+  difference-wrapped h k =
+      let m : ℕ = 2 ^ width in
+      let turn : m - 1 - (b - a) + 1 ≡ a + m - b = omega arith in
+      let below : a + m - b < m = omega arith in
+      turn ∙ sym (mod-eq-of-lt below)
 
 -- ---- step
 
@@ -18,19 +38,21 @@ fullTurn-bounds s h = go (eqb s 0) refl
     go false e = rw e (omega (arith, eqb-false s 0 e), omega arith)
 
 pub step-bounds : (received presented : ℕ) → (1 ≤ step received presented) × (step received presented ≤ 2 ^ 32)
-unfolding step minus
+unfolding step differenceMod
 step-bounds received presented = fullTurn-bounds ((presented + 2 ^ 32 - middle received) % 2 ^ 32) (omega arith)
 
 -- the step is a full turn where presented is M
 pub step-zero :
-    (received presented t : ℕ) → t ≡ minus 32 presented (middle received) → t ≡ 0 → 2 ^ 32 ≡ step received presented
+    (received presented t : ℕ) → t ≡ differenceMod 32 presented (middle received) → t ≡ 0
+    → 2 ^ 32 ≡ step received presented
 unfolding step
-step-zero received presented t e z = rw (eq-eqb (minus 32 presented (middle received)) 0 (sym e ∙ z)) refl
+step-zero received presented t e z = rw (eq-eqb (differenceMod 32 presented (middle received)) 0 (sym e ∙ z)) refl
 
 pub step-other :
-    (received presented t : ℕ) → t ≡ minus 32 presented (middle received) → (t ≡ 0 → ⊥) → t ≡ step received presented
+    (received presented t : ℕ) → t ≡ differenceMod 32 presented (middle received) → (t ≡ 0 → ⊥)
+    → t ≡ step received presented
 unfolding step
-step-other received presented t e h = rw (ne-eqb (minus 32 presented (middle received)) 0 (λ z. h (e ∙ z))) e
+step-other received presented t e h = rw (ne-eqb (differenceMod 32 presented (middle received)) 0 (λ z. h (e ∙ z))) e
 
 -- ---- delay and expanded
 

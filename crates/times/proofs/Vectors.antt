@@ -2,7 +2,8 @@
 use Prim.Native.Nat.{ℕ, _+_, _-_, _*_, _^_}
 use mathlib.Core.Path.{_≡_, refl}
 use mathlib.Core.Bool.{true, false}
-use Rattle.times.specs.Times.{minus, step, unwrapped, expanded, delay, ntpAge, rtpAge, isFar, isAged, isBadlyPresented}
+use Rattle.times.specs.Times.{differenceMod, step, unwrapped, expanded, delay, ntpAge, rtpAge}
+use Rattle.times.specs.Times.{isFar, isAged, isBadlyPresented}
 
 -- whole seconds as a full time
 abbrev seconds : ℕ → ℕ
@@ -16,7 +17,7 @@ p1-p2 :
     × (rtpAge 9000000 8910000 ≡ 90000)
     × (ntpAge (seconds 1000) (seconds 998) ≡ 2 * 2 ^ 32)
     × (rtpAge 9000000 8820000 ≡ 180000)
-unfolding step unwrapped delay minus
+unfolding step unwrapped delay differenceMod
 p1-p2 = (refl, refl, refl, refl, refl, refl)
 
 -- P6 and P7: received before the wrap, N and the presentation behind it; presented 0 expands to 0
@@ -26,7 +27,7 @@ p6-p7 :
     × (expanded 0xFFFFFFFF00000000 0x00004000 ≡ 0x40000000)
     × (isBadlyPresented 0xFFFFFFFF00000000 0x00004000 ≡ false)
     × (isBadlyPresented 0xFFFFFFFF00000000 0 ≡ true)
-unfolding step unwrapped delay expanded minus
+unfolding step unwrapped delay expanded differenceMod
 p6-p7 = (refl, refl, refl, refl, refl)
 
 -- P8: received 970 s passes 15, one unit earlier is refused; N passes, N plus one unit is refused
@@ -35,7 +36,7 @@ p8 :
     × (isFar (seconds 1000) (seconds 970 - 1) ≡ true)
     × (isFar (seconds 1000) (seconds 1000) ≡ false)
     × (isFar (seconds 1000) (seconds 1000 + 1) ≡ true)
-unfolding minus
+unfolding differenceMod
 p8 = (refl, refl, refl, refl)
 
 -- P9: RTP 3,600,000 passes 16; 3,599,999 and 9,000,001 are refused
@@ -43,18 +44,18 @@ p9 :
     (isAged 90000 9000000 3600000 ≡ false)
     × (isAged 90000 9000000 3599999 ≡ true)
     × (isAged 90000 9000000 9000001 ≡ true)
-unfolding minus
+unfolding differenceMod
 p9 = (refl, refl, refl)
 
 -- P10: a delay of 30 s passes 17, one unit of 2^-16 s more does not
 p10 :
     (isBadlyPresented (seconds 999) 0x04050000 ≡ false)
     × (isBadlyPresented (seconds 999) 0x04050001 ≡ true)
-unfolding step unwrapped delay expanded minus
+unfolding step unwrapped delay expanded differenceMod
 p10 = (refl, refl)
 
 -- a step of 0 is a full turn: a delay of some 18 hours
 full-turn :
     (delay (seconds 999) 0x03E70000 ≡ 2 ^ 48) × (isBadlyPresented (seconds 999) 0x03E70000 ≡ true)
-unfolding step unwrapped delay expanded minus
+unfolding step unwrapped delay expanded differenceMod
 full-turn = (refl, refl)

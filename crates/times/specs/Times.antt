@@ -1,5 +1,5 @@
--- Times (document 01, "Times", and the ages of "The member table"). A full time is 64 bits, in units of 2^-32 s, and wraps;
--- the short presented time has 32 bits, in units of 2^-16 s; an RTP time has 32 bits.
+-- Times (document 01, "Times", and the ages of "The member table"). A full time is 64 bits, in units of 2^-32 s, and
+-- wraps; the short presented time has 32 bits, in units of 2^-16 s; an RTP time has 32 bits.
 use Prim.Native.Nat.{ℕ, _+_, _-_, _*_, _/_, _%_, _^_}
 use mathlib.Core.Bool.{Bool, not, cond, _&&_, _||_}
 use lib.Dec.{ltb, eqb}
@@ -7,16 +7,16 @@ use lib.Dec.{ltb, eqb}
 -- ---- ages
 
 -- (a − b) modulo 2^width, for numbers of that width
-unfoldable pub minus : (width a b : ℕ) → ℕ
-minus width a b = (a + 2 ^ width - b) % 2 ^ width
+unfoldable pub differenceMod : (width a b : ℕ) → ℕ
+differenceMod width a b = (a + 2 ^ width - b) % 2 ^ width
 
 -- NTP age: (N − received) modulo 2^64
 abbrev pub ntpAge : ℕ → ℕ → ℕ
-ntpAge n received = minus 64 n received
+ntpAge n received = differenceMod 64 n received
 
 -- RTP age: (R − RTP) modulo 2^32
 abbrev pub rtpAge : ℕ → ℕ → ℕ
-rtpAge r rtp = minus 32 r rtp
+rtpAge r rtp = differenceMod 32 r rtp
 
 -- ---- presentation
 
@@ -31,7 +31,7 @@ middle received = received / 2 ^ 16 % 2 ^ 32
 -- document 01's step, in units of 2^-16 s: (presented − M) modulo 2^32, where 0 is read as 2^32, since presented is
 -- greater than received
 unfoldable pub step : ℕ → ℕ → ℕ
-step received presented = fullTurn (minus 32 presented (middle received))
+step received presented = fullTurn (differenceMod 32 presented (middle received))
 
 -- the presentation before wrapping: received with its low 16 bits cleared, plus step × 2^16
 unfoldable pub unwrapped : ℕ → ℕ → ℕ
@@ -47,9 +47,13 @@ delay received presented = unwrapped received presented - received
 
 -- ---- checks 15, 16 and 17
 
+-- as a full time
+abbrev pub thirtySeconds : ℕ
+thirtySeconds = 30 * 2 ^ 32
+
 -- 15: received time not within 30 s at or before the sender's reading
 abbrev pub isFar : ℕ → ℕ → Bool
-isFar n received = ltb (30 * 2 ^ 32) (ntpAge n received)
+isFar n received = ltb thirtySeconds (ntpAge n received)
 
 -- 16: RTP age above 60 seconds of media clock
 abbrev pub isAged : ℕ → ℕ → ℕ → Bool
@@ -57,7 +61,8 @@ isAged rate r rtp = ltb (60 * rate) (rtpAge r rtp)
 
 -- 17, of a report with P 1: presentation delay over 30 s, or expanded presentation equal to 0
 abbrev pub isBadlyPresented : ℕ → ℕ → Bool
-isBadlyPresented received presented = ltb (30 * 2 ^ 32) (delay received presented) || eqb (expanded received presented) 0
+isBadlyPresented received presented =
+    ltb thirtySeconds (delay received presented) || eqb (expanded received presented) 0
 
 -- fresh: neither 15 nor 16 would be given at this reading
 abbrev pub isFresh : ℕ → ℕ → ℕ → ℕ → ℕ → Bool

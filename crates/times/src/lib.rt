@@ -1,10 +1,11 @@
 // Times that wrap: presentation, ages, and the checks on them. Every function takes any numbers.
 ghost use mathlib.Core.Path.{_≡_};
 ghost use Prim.Native.Nat.{_≤_, _^_};
-ghost use Rattle.times.specs.Times.{step, expanded, delay, ntpAge, rtpAge, isFar, isAged, isBadlyPresented, isFresh};
+ghost use Rattle.times.specs.Times.{step, expanded, delay, ntpAge, rtpAge};
+ghost use Rattle.times.specs.Times.{isFar, isAged, isBadlyPresented, isFresh};
 
-// 30 s in units of 2^-32 s.
-const LONGEST: u64 = 128849018880;
+// In units of 2^-32 s: the longest NTP age (15) and the longest presentation delay (17).
+pub const THIRTY_SECONDS: u64 = 128849018880;
 
 // How long before the sender's reading N the packet was received.
 pub fn ntp_age(n: u64, received: u64) -> u64
@@ -60,7 +61,7 @@ pub fn presentation(received: u64, presented: u32) -> u64
 pub fn is_far(n: u64, received: u64) -> bool
     ensures { λ b. ⌜ b ≡ isFar n received ⌝ }
 {
-    LONGEST < ntp_age(n, received)
+    THIRTY_SECONDS < ntp_age(n, received)
 }
 
 // Check 16, for any rate.
@@ -74,7 +75,7 @@ pub fn is_aged(rate: u32, r: u32, rtp: u32) -> bool
 pub fn is_badly_presented(received: u64, presented: u32) -> bool
     ensures { λ b. ⌜ b ≡ isBadlyPresented received presented ⌝ }
 {
-    if LONGEST < presentation_delay(received, presented) {
+    if THIRTY_SECONDS < presentation_delay(received, presented) {
         return true;
     }
     presentation(received, presented) == 0

@@ -1,47 +1,52 @@
--- Demand 2, second half: what was read writes back as the datagram's own bytes, once reserved bits, padding and an unused
--- presented time are cleared. Each item is read from a block or packet (rtcp's Laws/ItemPlaces), and word by word its
--- fields spell the bytes that were there (Laws/Words).
+-- Demand 2, second half: what was read writes back as the datagram's own bytes, once reserved bits, padding and an
+-- unused presented time are cleared. Each item is read from a block or packet (rtcp's Laws/ItemPlaces), and its fields
+-- spell word by word the bytes that were there (Laws/Words).
 use Prim.Native.Nat.{ℕ, _+_, _*_, _/_, _%_, _^_, _≤_, _<_}
 use mathlib.Core.Path.{_≡_, refl, sym, ap, ap₂, _∙_}
 use mathlib.Core.List.{List, [], _∷_, _++_}
-use mathlib.Core.Bool.{Bool, true, false, not, cond, _&&_, _||_}
+use mathlib.Core.Bool.{Bool, true, false, not, cond, _&&_, _||_, and-eq-true-iff}
 use lib.ListN.{length, take, drop}
 use lib.Dec.{eqb}
 use native.Mathlib.Omega.{arith}
 use borrow.Author.Tests.{le-ltb, eqb-true, eqb-false, ne-eqb}
-use Rattle.idms.specs.Rows.{bit}
+use Rattle.idms.specs.Rows.{flag}
 use Rattle.idms.specs.declared.Report.{Report}
 use Rattle.idms.specs.declared.Settings.{Settings}
 use Rattle.idms.specs.declared.Item.{Item}
 use Rattle.idms.specs.declared.Placed.{Placed}
 use Rattle.idms.specs.declared.Found.{Found}
-use Rattle.rtcp.specs.Bytes.{AreBytes, byte, be16, be32, be64}
-use Rattle.rtcp.specs.Packet.{version, packetType}
-use Rattle.rtcp.specs.Report.{blockType, blockLength, role, presents, reports, reportAt}
-use Rattle.rtcp.specs.Settings.{settingsAt}
+use Rattle.packet.specs.Bytes.{AreBytes, byte, be16, be32, be64}
+use Rattle.packet.specs.Packet.{version, packetType}
+use Rattle.packet.specs.Report.{blockType, blockLength, role, blockP, reports, reportAt}
+use Rattle.packet.specs.Settings.{settingsAt}
 use Rattle.rtcp.specs.Puts.{flat}
 use Rattle.rtcp.specs.Answers.{itemOf}
-use Rattle.rtcp.proofs.Laws.Blocks.{and-left, and-right}
 use Rattle.rtcp.proofs.Laws.ItemPlaces.{ReadFrom, report, setting, farewell, item-read}
 use Rattle.writer.specs.declared.Written.{Written}
-use Rattle.writer.specs.Messages.{bytes32, bytesOf, reportWords, settingsWords, reportIsUnwritable, settingsAreUnwritable, written, buffer}
+use Rattle.writer.specs.Messages.{bytes32, bytesOf, reportWords, settingsWords}
+use Rattle.writer.specs.Messages.{reportIsUnwritable, settingsAreUnwritable, written, buffer}
 use Rattle.writer.specs.RoundTrip.{part, clearedReport, clearedSettings}
 use Rattle.writer.proofs.Laws.Words.{part-word, wordsAt, words-part, be64-high, be64-low}
 
 -- ---- the report
 
-module _ (d : List ℕ) (sender at : ℕ) (h : AreBytes d) (r : reports d at ≡ true) (w : blockLength d at ≡ 7) (l : at + 32 ≤ length d) where
+module _
+    (d : List ℕ) (sender at : ℕ) (h : AreBytes d) (r : reports d at ≡ true) (w : blockLength d at ≡ 7)
+    (l : at + 32 ≤ length d) where
   type-word :
-      bytes32 (0x0C100007 + bit (presents d at) * 2 ^ 16)
+      bytes32 (0x0C100007 + flag (blockP d at) * 2 ^ 16)
       ≡ byte d at ∷ (byte d (at + 1) / 2 ^ 4 * 2 ^ 4 + byte d (at + 1) % 2) ∷ byte d (at + 2) ∷ byte d (at + 3) ∷ []
   unfolding be16
-  type-word = go (presents d at) refl
+  type-word = go (blockP d at) refl
     where
+      both : (eqb (blockType d at) 12 ≡ true) × (eqb (role d at) 1 ≡ true)
+      both = and-eq-true-iff (eqb (blockType d at) 12) (eqb (role d at) 1) .0 r
+
       twelve : byte d at ≡ 12
-      twelve = eqb-true (blockType d at) 12 (and-left (eqb (blockType d at) 12) (eqb (role d at) 1) r)
+      twelve = eqb-true (blockType d at) 12 (both .0)
 
       one : byte d (at + 1) / 2 ^ 4 ≡ 1
-      one = eqb-true (role d at) 1 (and-right (eqb (blockType d at) 12) (eqb (role d at) 1) r)
+      one = eqb-true (role d at) 1 (both .1)
 
       high : byte d (at + 2) ≡ 0
       high = omega (arith, w, h (at + 2), h (at + 2 + 1))
@@ -53,8 +58,8 @@ module _ (d : List ℕ) (sender at : ℕ) (h : AreBytes d) (r : reports d at ≡
           ap (byte d) next ∙ seven
 
       go :
-          (p : Bool) → presents d at ≡ p
-          → bytes32 (0x0C100007 + bit p * 2 ^ 16)
+          (p : Bool) → blockP d at ≡ p
+          → bytes32 (0x0C100007 + flag p * 2 ^ 16)
           ≡ byte d at ∷ (byte d (at + 1) / 2 ^ 4 * 2 ^ 4 + byte d (at + 1) % 2) ∷ byte d (at + 2) ∷ byte d (at + 3) ∷ []
       go true e =
           let odd : byte d (at + 1) % 2 ≡ 1 = eqb-true (byte d (at + 1) % 2) 1 e in
@@ -90,8 +95,9 @@ module _ (d : List ℕ) (sender at : ℕ) (h : AreBytes d) (r : reports d at ≡
       ∷ []
 
   presented-word :
-      bytes32 (cond (presents d at) (be32 d (at + 28)) 0) ≡ cond (presents d at) (part d (at + 28) 4) (0 ∷ 0 ∷ 0 ∷ 0 ∷ [])
-  presented-word = go (presents d at)
+      bytes32 (cond (blockP d at) (be32 d (at + 28)) 0)
+      ≡ cond (blockP d at) (part d (at + 28) 4) (0 ∷ 0 ∷ 0 ∷ 0 ∷ [])
+  presented-word = go (blockP d at)
     where
       go : (p : Bool) → bytes32 (cond p (be32 d (at + 28)) 0) ≡ cond p (part d (at + 28) 4) (0 ∷ 0 ∷ 0 ∷ 0 ∷ [])
       go true = part-word d (at + 28) h (omega arith)
@@ -104,12 +110,15 @@ module _ (d : List ℕ) (sender at : ℕ) (h : AreBytes d) (r : reports d at ≡
       (ap₂ _++_ payload-word
       (ap₂ _++_ (ap (flat bytes32) middle-words ∙ words-part d (at + 8) 5 h (omega arith)) presented-word))
 
--- An item that was read never has a payload type above 127, or P 0 with presented non-zero: of refusal 11 the group alone
--- is left.
-only-group : (d : List ℕ) (sender at : ℕ) → AreBytes d → reportIsUnwritable (reportAt d sender at) ≡ eqb (reportAt d sender at .group) 4294967295
+-- An item that was read never has a payload type above 127, or P 0 with presented non-zero: of refusal 11 the group
+-- alone is left.
+only-group :
+    (d : List ℕ) (sender at : ℕ) → AreBytes d
+    → reportIsUnwritable (reportAt d sender at) ≡ eqb (reportAt d sender at .group) 4294967295
 unfolding reportAt reportIsUnwritable
 only-group d sender at h =
-    rw (le-ltb 127 (byte d (at + 4) / 2) (omega (arith, h (at + 4)))) (go (presents d at) (eqb (be32 d (at + 8)) 4294967295))
+    rw (le-ltb 127 (byte d (at + 4) / 2) (omega (arith, h (at + 4))))
+    (go (blockP d at) (eqb (be32 d (at + 8)) 4294967295))
   where
     go : (p g : Bool) → (g || (not p && not (eqb (cond p (be32 d (at + 28)) 0) 0))) ≡ g
     go true true = refl
@@ -143,13 +152,9 @@ read-report d index place r h e = take (item-read d index _ e) refl
               ∙ ap (λ (y : Report). eqb (y .group) 4294967295) same;
         }
     take (setting p v t l) e =
-        let items : Item.Settings (settingsAt d p) ≡ Item.Report r = ap (λ (y : Placed). y .item) e in
-        let z : _≡_ {A = ℕ} 0 1 = cc in
-        absurd (omega arith)
+        let z : _≡_ {A = ℕ} 0 1 = cc (ap (λ (y : Placed). y .item) e) in absurd (omega arith)
     take (farewell at source) e =
-        let items : Item.Farewell source ≡ Item.Report r = ap (λ (y : Placed). y .item) e in
-        let z : _≡_ {A = ℕ} 0 1 = cc in
-        absurd (omega arith)
+        let z : _≡_ {A = ℕ} 0 1 = cc (ap (λ (y : Placed). y .item) e) in absurd (omega arith)
 
 -- A report that was read can be written back exactly if its group is not 4,294,967,295.
 pub report-writable :
@@ -172,7 +177,9 @@ report-read-write d buf index place r h e g l =
 
 -- ---- the settings
 
-module _ (d : List ℕ) (p : ℕ) (h : AreBytes d) (v : version d p ≡ 2) (t : packetType d p ≡ 211) (l : p + 36 ≤ length d) where
+module _
+    (d : List ℕ) (p : ℕ) (h : AreBytes d) (v : version d p ≡ 2) (t : packetType d p ≡ 211)
+    (l : p + 36 ≤ length d) where
   -- sender, media source, group, received, RTP and presented: the packet's words 1 to 8
   settings-words :
       be32 d (p + 4)
@@ -233,12 +240,10 @@ settings-read-write d buf index place s h e g l =
         let there : p ≡ place = ap (λ (y : Placed). y .place) e in
         let items : Item.Settings (settingsAt d p) ≡ Item.Settings s = ap (λ (y : Placed). y .item) e in
         let same : settingsAt d p ≡ s = cc in
-        sym (ap (λ (y : Settings). bytesOf (settingsWords y)) same) ∙ packet-written d p h v t l ∙ ap (clearedSettings d) there
+        sym (ap (λ (y : Settings). bytesOf (settingsWords y)) same)
+        ∙ packet-written d p h v t l
+        ∙ ap (clearedSettings d) there
     found (report sender at t w l) e =
-        let items : Item.Report (reportAt d sender at) ≡ Item.Settings s = ap (λ (y : Placed). y .item) e in
-        let z : _≡_ {A = ℕ} 0 1 = cc in
-        absurd (omega arith)
+        let z : _≡_ {A = ℕ} 0 1 = cc (ap (λ (y : Placed). y .item) e) in absurd (omega arith)
     found (farewell at source) e =
-        let items : Item.Farewell source ≡ Item.Settings s = ap (λ (y : Placed). y .item) e in
-        let z : _≡_ {A = ℕ} 0 1 = cc in
-        absurd (omega arith)
+        let z : _≡_ {A = ℕ} 0 1 = cc (ap (λ (y : Placed). y .item) e) in absurd (omega arith)

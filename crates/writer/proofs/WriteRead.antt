@@ -11,22 +11,20 @@ use Rattle.idms.specs.declared.Report.{Report}
 use Rattle.idms.specs.declared.Settings.{Settings}
 use Rattle.idms.specs.declared.Item.{Item}
 use Rattle.idms.specs.declared.Found.{Found}
-use Rattle.rtcp.specs.Bytes.{joined, be16, be32, be64}
-use Rattle.rtcp.specs.Walk.{walking, walk}
-use Rattle.rtcp.specs.Packet.{paddingIsBad, content, byType, contentIsShort, headCheck}
-use Rattle.rtcp.specs.Report.{blockCheck, reportAt, blockItems}
-use Rattle.rtcp.specs.Settings.{settingsAt}
-use Rattle.rtcp.specs.Datagram.{packetCheck, packetItems, datagramCheck, datagramItems}
-use Rattle.rtcp.specs.Answers.{countOf, itemOf, pick}
+use Rattle.packet.specs.Bytes.{be16, be32, be64}
+use Rattle.datagram.specs.Walk.{walking, walk}
+use Rattle.packet.specs.Packet.{paddingIsBad, content, kindOf, headCheck}
+use Rattle.packet.specs.Report.{blockCheck, reportAt, blockItems}
+use Rattle.packet.specs.Settings.{settingsAt}
+use Rattle.datagram.specs.Datagram.{packetCheck, packetItems, datagramCheck, datagramItems}
+use Rattle.datagram.specs.Answers.{itemCount}
+use Rattle.rtcp.specs.Answers.{itemOf, pick}
 use Rattle.writer.specs.declared.Written.{Written}
-use Rattle.writer.specs.Messages.{bytesOf, reportWords, settingsWords, reportIsUnwritable, settingsAreUnwritable, written, buffer}
+use Rattle.writer.specs.Messages.{bytesOf, reportWords, settingsWords}
+use Rattle.writer.specs.Messages.{reportIsUnwritable, settingsAreUnwritable, written, buffer}
 use Rattle.writer.specs.RoundTrip.{behindRR, GivesOne, ReportFits, SettingsFit}
 use Rattle.writer.proofs.Laws.Messages.{writable, writable-presented}
-use Rattle.writer.proofs.Laws.Words.{joined-bytes32, joined-halves}
-
--- a word as it is read back
-abbrev spelt : ℕ → ℕ
-spelt n = joined (n / 2 ^ 24 % 2 ^ 8) (n / 2 ^ 16 % 2 ^ 8) (n / 2 ^ 8 % 2 ^ 8) (n % 2 ^ 8)
+use Rattle.writer.proofs.Laws.Words.{spelt, spelt-word, spelt-halves}
 
 -- ---- the report
 
@@ -61,7 +59,8 @@ walk-report :
     (r : Report) (p : Bool) (ssrc : ℕ)
     → GivesOne (behindRR ssrc (bytesOf (reportWords (reportIn r p))))
     (record { place = 16; item = Item.Report (reportBack r p) })
-unfolding reportIn reportBack countOf itemOf pick datagramCheck datagramItems walk walking packetCheck packetItems headCheck paddingIsBad content byType contentIsShort blockCheck blockItems reportAt be16 be32 be64
+unfolding reportIn reportBack itemCount itemOf pick datagramCheck datagramItems walk walking packetCheck packetItems
+    headCheck paddingIsBad content kindOf blockCheck blockItems reportAt be16 be32 be64
 walk-report r true ssrc = (refl, refl)
 walk-report r false ssrc = (refl, refl)
 
@@ -69,13 +68,13 @@ same-report : (r : Report) → ReportFits r → reportIsUnwritable r ≡ false �
 unfolding reportBack
 same-report r fits h =
     λ i. record {
-      sender = joined-bytes32 (r .sender) (fits .sender) i;
+      sender = spelt-word (r .sender) (fits .sender) i;
       «payload_type» = payload i;
       p = r .p;
-      group = joined-bytes32 (r .group) (fits .group) i;
-      media = joined-bytes32 (r .media) (fits .media) i;
-      received = joined-halves (r .received) (fits .received) i;
-      rtp = joined-bytes32 (r .rtp) (fits .rtp) i;
+      group = spelt-word (r .group) (fits .group) i;
+      media = spelt-word (r .media) (fits .media) i;
+      received = spelt-halves (r .received) (fits .received) i;
+      rtp = spelt-word (r .rtp) (fits .rtp) i;
       presented = shown (r .p) refl i;
     }
   where
@@ -83,7 +82,7 @@ same-report r fits h =
     payload = omega (arith, writable r h .payload)
 
     shown : (p : Bool) → r .p ≡ p → cond p (spelt (r .presented)) 0 ≡ r .presented
-    shown true e = joined-bytes32 (r .presented) (fits .presented)
+    shown true e = spelt-word (r .presented) (fits .presented)
     shown false e = sym (writable-presented r h e)
 
 -- For all fields that may be written, in every buffer of 40 bytes or more, and whatever the RR's sender: the writer
@@ -115,19 +114,20 @@ settingsBack s =
 walk-settings :
     (s : Settings) (ssrc : ℕ)
     → GivesOne (behindRR ssrc (bytesOf (settingsWords s))) (record { place = 8; item = Item.Settings (settingsBack s) })
-unfolding settingsBack countOf itemOf pick datagramCheck datagramItems walk walking packetCheck packetItems headCheck paddingIsBad content byType contentIsShort settingsAt be16 be32 be64
+unfolding settingsBack itemCount itemOf pick datagramCheck datagramItems walk walking packetCheck packetItems
+    headCheck paddingIsBad content kindOf settingsAt be16 be32 be64
 walk-settings s ssrc = (refl, refl)
 
 same-settings : (s : Settings) → SettingsFit s → settingsBack s ≡ s
 unfolding settingsBack
 same-settings s fits =
     λ i. record {
-      sender = joined-bytes32 (s .sender) (fits .sender) i;
-      media = joined-bytes32 (s .media) (fits .media) i;
-      group = joined-bytes32 (s .group) (fits .group) i;
-      received = joined-halves (s .received) (fits .received) i;
-      rtp = joined-bytes32 (s .rtp) (fits .rtp) i;
-      presented = joined-halves (s .presented) (fits .presented) i;
+      sender = spelt-word (s .sender) (fits .sender) i;
+      media = spelt-word (s .media) (fits .media) i;
+      group = spelt-word (s .group) (fits .group) i;
+      received = spelt-halves (s .received) (fits .received) i;
+      rtp = spelt-word (s .rtp) (fits .rtp) i;
+      presented = spelt-halves (s .presented) (fits .presented) i;
     }
 
 -- The same of settings: 36 bytes, for every group but 4,294,967,295.

@@ -1,13 +1,15 @@
--- The two messages as words, word by word as the layouts of rtcp's Report and Settings have them, and what a writer
+-- The two messages as words, word by word as the layouts of packet's Report and Settings have them, and what a writer
 -- answers and leaves in the buffer.
 use Prim.Native.Nat.{ℕ, _+_, _*_, _/_, _%_, _^_}
+use mathlib.Core.Path.{_≡_}
 use mathlib.Core.List.{List, [], _∷_, _++_}
 use mathlib.Core.Bool.{Bool, not, cond, _&&_, _||_}
 use lib.ListN.{length, drop}
 use lib.Dec.{ltb, eqb}
-use Rattle.idms.specs.Rows.{bit}
+use Rattle.idms.specs.Rows.{flag}
 use Rattle.idms.specs.declared.Report.{Report}
 use Rattle.idms.specs.declared.Settings.{Settings}
+use Rattle.refusals.specs.Refusals.{shortBuffer, outOfRange}
 use Rattle.rtcp.specs.Puts.{flat}
 use Rattle.writer.specs.declared.Written.{Written}
 
@@ -24,7 +26,7 @@ abbrev pub reportWords : Report → List ℕ
 reportWords r =
     0x80CF0009
     ∷ r .sender
-    ∷ (0x0C100007 + bit (r .p) * 2 ^ 16)
+    ∷ (0x0C100007 + flag (r .p) * 2 ^ 16)
     ∷ (r .«payload_type» * 2 ^ 25)
     ∷ r .group
     ∷ r .media
@@ -34,8 +36,8 @@ reportWords r =
     ∷ r .presented
     ∷ []
 
--- The settings packet: header, sender; media source; group; received; RTP; presented. Here the media source precedes the
--- group; in the report it follows.
+-- The settings packet: header, sender; media source; group; received; RTP; presented. Here the media source precedes
+-- the group; in the report it follows.
 abbrev pub settingsWords : Settings → List ℕ
 settingsWords s =
     0x80D30008
@@ -51,7 +53,8 @@ settingsWords s =
 
 -- refusal 11: payload type above 127, group 4,294,967,295, or P 0 with presented non-zero
 unfoldable pub reportIsUnwritable : Report → Bool
-reportIsUnwritable r = ltb 127 (r .«payload_type») || eqb (r .group) 4294967295 || (not (r .p) && not (eqb (r .presented) 0))
+reportIsUnwritable r =
+    ltb 127 (r .«payload_type») || eqb (r .group) 4294967295 || (not (r .p) && not (eqb (r .presented) 0))
 
 -- for settings only the group applies
 abbrev pub settingsAreUnwritable : Settings → Bool
@@ -60,11 +63,16 @@ settingsAreUnwritable s = eqb (s .group) 4294967295
 -- The answer for a message of these words: 11 before 10, then how many bytes were written.
 abbrev pub written : Bool → List ℕ → List ℕ → Written
 written unwritable words buf =
-    cond unwritable (Written.Refused 11)
-    (cond (ltb (length buf) (4 * length words)) (Written.Refused 10) (Written.Bytes (4 * length words)))
+    cond unwritable (Written.Refused outOfRange)
+    (cond (ltb (length buf) (4 * length words)) (Written.Refused shortBuffer) (Written.Bytes (4 * length words)))
 
 -- The buffer afterwards: as before on a refusal; else the message, and behind it what was there.
 abbrev pub buffer : Bool → List ℕ → List ℕ → List ℕ
 buffer unwritable words buf =
     cond unwritable buf
     (cond (ltb (length buf) (4 * length words)) buf (bytesOf words ++ drop (4 * length words) buf))
+
+-- What a writer has done with a buffer: its answer, and the buffer afterwards.
+abbrev pub WroteMessage : Bool → List ℕ → List ℕ → Written → List ℕ → Type 0
+WroteMessage unwritable words buf answer buf′ =
+    (answer ≡ written unwritable words buf) × (buf′ ≡ buffer unwritable words buf)

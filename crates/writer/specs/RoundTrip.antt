@@ -9,10 +9,11 @@ use Rattle.idms.specs.declared.Report.{Report}
 use Rattle.idms.specs.declared.Settings.{Settings}
 use Rattle.idms.specs.declared.Placed.{Placed}
 use Rattle.idms.specs.declared.Found.{Found}
-use Rattle.rtcp.specs.declared.walk.Count.{Count}
-use Rattle.rtcp.specs.Bytes.{byte}
-use Rattle.rtcp.specs.Report.{presents}
-use Rattle.rtcp.specs.Answers.{countOf, itemOf}
+use Rattle.datagram.specs.declared.Count.{Count}
+use Rattle.packet.specs.Bytes.{byte}
+use Rattle.packet.specs.Report.{blockP}
+use Rattle.datagram.specs.Answers.{itemCount}
+use Rattle.rtcp.specs.Answers.{itemOf}
 use Rattle.writer.specs.Messages.{bytesOf}
 
 -- a packet read back is judged behind an 8-byte RR with count 0, whatever its sender
@@ -21,7 +22,7 @@ behindRR ssrc bytes = bytesOf (0x80C90001 ∷ ssrc ∷ []) ++ bytes
 
 -- exactly one item is read from a datagram, and it is this one
 abbrev pub GivesOne : List ℕ → Placed → Type 0
-GivesOne d x = (countOf d ≡ Count.Items 1) × (itemOf d 0 ≡ Found.Item x)
+GivesOne d x = (itemCount d ≡ Count.Items 1) × (itemOf d 0 ≡ Found.Item x)
 
 -- the ranges of the fields' types
 pub record ReportFits (r : Report) : Type 0 where
@@ -57,7 +58,7 @@ clearedReport d at =
     ∷ 0
     ∷ 0
     ∷ (part d (at + 8) 20
-    ++ cond (presents d at) (part d (at + 28) 4) (0 ∷ 0 ∷ 0 ∷ 0 ∷ []))
+    ++ cond (blockP d at) (part d (at + 28) 4) (0 ∷ 0 ∷ 0 ∷ 0 ∷ []))
 
 -- A settings packet's 36 bytes without padding: version and type as they are, P and the five count bits 0, length 8.
 abbrev pub clearedSettings : List ℕ → ℕ → List ℕ

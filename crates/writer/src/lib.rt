@@ -1,16 +1,16 @@
 // Writes the two IDMS messages (RFC 7272) to the front of a lent buffer.
 use idms::Report;
 use idms::Settings;
+use refusals::OUT_OF_RANGE;
+use refusals::SHORT_BUFFER;
+ghost use mathlib.Core.List.{reverse};
 ghost use mathlib.Core.Path.{_≡_};
 ghost use Prim.Native.Nat.{_+_, _*_, _≤_, _<_};
 ghost use lib.ListN.{length};
 ghost use lib.Seq.{paste};
 ghost use Rattle.rtcp.specs.Puts.{puts};
-ghost use Rattle.writer.specs.Messages.{bytes32, reportWords, settingsWords, reportIsUnwritable, settingsAreUnwritable, written, buffer};
-
-const SHORT_BUFFER: u64 = 10;
-
-const OUT_OF_RANGE: u64 = 11;
+ghost use Rattle.writer.specs.Messages.{bytes32, reportWords, settingsWords};
+ghost use Rattle.writer.specs.Messages.{reportIsUnwritable, settingsAreUnwritable, WroteMessage};
 
 // What a writer answers: how many bytes it wrote, or the number of its refusal.
 pub enum Written {
@@ -18,15 +18,24 @@ pub enum Written {
     Refused(u64),
 }
 
+// A word with its bytes in the opposite order: one instruction. The compiler joins the four stores of `put_word` where
+// they take the bytes of a word from the least significant on, and not the other way round.
+fn reversed(w: u32) -> u32
+    ensures { λ r. ⌜ bytes32 r ≡ reverse (bytes32 w) ⌝ }
+{
+    w % 256 * 16777216 + w / 256 % 256 * 65536 + w / 65536 % 256 * 256 + w / 16777216 % 256
+}
+
 // Puts the four bytes of a word at a place.
 fn put_word(buf: &mut [u8], at: usize, w: u32)
     requires { ⌜ at + 4 ≤ length (now buf) ⌝ }
     ensures { λ _. ⌜ now (buf .exit) ≡ paste (now (buf .entry)) at (bytes32 w) 4 ⌝ }
 {
-    buf[at] = (w / 16777216 % 256) as u8;
-    buf[at + 1] = (w / 65536 % 256) as u8;
-    buf[at + 2] = (w / 256 % 256) as u8;
-    buf[at + 3] = (w % 256) as u8;
+    let v = reversed(w);
+    buf[at] = (v % 256) as u8;
+    buf[at + 1] = (v / 256 % 256) as u8;
+    buf[at + 2] = (v / 65536 % 256) as u8;
+    buf[at + 3] = (v / 16777216 % 256) as u8;
 }
 
 // Puts words one behind the other at the front.
@@ -97,7 +106,7 @@ fn is_unwritable(r: Report) -> bool
 
 // Writes an XR packet of 40 bytes with one report block, or refuses with 11, then 10, and writes nothing.
 pub fn write_report(r: Report, buf: &mut [u8]) -> Written
-    ensures { λ w. ⌜ (w ≡ written (reportIsUnwritable r) (reportWords r) (now (buf .entry))) × (now (buf .exit) ≡ buffer (reportIsUnwritable r) (reportWords r) (now (buf .entry))) ⌝ }
+    ensures { λ w. ⌜ WroteMessage (reportIsUnwritable r) (reportWords r) (now (buf .entry)) w (now (buf .exit)) ⌝ }
 {
     let out = is_unwritable(r);
     let short = buf.len() < 40;
@@ -114,7 +123,7 @@ pub fn write_report(r: Report, buf: &mut [u8]) -> Written
 
 // Writes a settings packet of 36 bytes, or refuses with 11, then 10, and writes nothing.
 pub fn write_settings(s: Settings, buf: &mut [u8]) -> Written
-    ensures { λ w. ⌜ (w ≡ written (settingsAreUnwritable s) (settingsWords s) (now (buf .entry))) × (now (buf .exit) ≡ buffer (settingsAreUnwritable s) (settingsWords s) (now (buf .entry))) ⌝ }
+    ensures { λ w. ⌜ WroteMessage (settingsAreUnwritable s) (settingsWords s) (now (buf .entry)) w (now (buf .exit)) ⌝ }
 {
     if s.group == 4294967295 {
         return Written::Refused(OUT_OF_RANGE);

@@ -11,10 +11,9 @@ columns-requires c κs = search needs
 
 returns : tie.Need-returns
 returns c =
-    let p = c .before .before .args .p in
-    let number = c .before .before .args .number in
-    let columns = c .before .columns in
-    sym (field-absent p number (omega (arith, columns .ensures .0)))
+    let b = c .before in
+    let args = b .before .args in
+    sym (field-absent (args .p) (args .number) (omega (arith, b .columns .ensures .0)))
 
 row-requires : tie.Need-row-requires
 row-requires c κs = search needs
@@ -27,11 +26,10 @@ array-read-t5 c = omega arith
 
 returns-2 : tie.Need-returns-2
 returns-2 c =
-    let p = c .before .before .before .args .p in
-    let number = c .before .before .before .args .number in
-    let columns = c .before .before .columns in
-    let row = c .row in
-    let here : _ = field-present p number (omega (arith, columns .ensures .0)) in sym (rw (row .ensures) here)
+    let b = c .before .before in
+    let args = b .before .args in
+    let here : _ = field-present (args .p) (args .number) (omega (arith, b .columns .ensures .0)) in
+    sym (rw (c .row .ensures) here)
 
 pub field-at-spec : {M : Type 1} → statement M
 field-at-spec =

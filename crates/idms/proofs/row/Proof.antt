@@ -52,20 +52,18 @@ cast-t19 c = search needs
 
 returns : tie.Need-returns
 returns c =
-    let p = c .before .before .before .before .before .before .before .before .before .before .args .p in
-    let item = c .before .before .before .before .before .before .before .before .item in
-    sym (ap (cells (p .place)) (item .given .1))
+    let b = c .before .before .before .before .before .before .before .before in
+    sym (ap (cells (b .before .before .args .p .place)) (b .item .given .1))
 
 returns-2 : tie.Need-returns-2
 returns-2 c =
-    let p = c .before .before .before .before .before .before .before .args .p in
-    let item2 = c .before .before .before .before .before .item2 in
-    sym (ap (cells (p .place)) (item2 .given .1))
+    let b = c .before .before .before .before .before in
+    sym (ap (cells (b .before .before .args .p .place)) (b .item2 .given .1))
 
 returns-3 : tie.Need-returns-3
 returns-3 c =
-    let p = c .before .before .before .args .p in
-    sym (ap (cells (p .place)) (c .before .item3 .given .1))
+    let b = c .before in
+    sym (ap (cells (b .before .before .args .p .place)) (b .item3 .given .1))
 
 pub row-spec : {M : Type 1} → statement M
 row-spec =

@@ -36,8 +36,8 @@ returns c =
 enum-known-x : tie.Need-enum-known-x Inv-loop μ-loop
 enum-known-x c = search needs
 
-weigh-requires : tie.Need-weigh-requires Inv-loop μ-loop
-weigh-requires c κs = search needs
+calls-of-requires : tie.Need-calls-of-requires Inv-loop μ-loop
+calls-of-requires c κs = search needs
 
 add-calls : tie.Need-add-calls Inv-loop μ-loop
 add-calls c = search needs
@@ -57,7 +57,7 @@ loop-again c =
     let gave : _ = sym (next-item .ensures) ∙ c .before .before .x .given .1 in
     let front : _ =
     ap callCount (given-item (loop .left) d (loop .cursor) _ _ (loop-test .taken) gave) ∙ count-front _ _ in
-    (omega (arith, loop .inv .0, c .weigh .ensures .1), omega (arith, loop .inv .1, c .weigh .ensures .0, front))
+    (omega (arith, loop .inv .0, c .calls-of .ensures .1), omega (arith, loop .inv .1, c .calls-of .ensures .0, front))
 
 returns-2 : tie.Need-returns-2 Inv-loop μ-loop
 returns-2 c =
@@ -77,7 +77,7 @@ count-calls-spec =
     enum-told
     returns
     enum-known-x
-    weigh-requires
+    calls-of-requires
     add-calls
     sub-left
     loop-less

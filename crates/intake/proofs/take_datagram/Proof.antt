@@ -2,7 +2,7 @@
 use mathlib.Core.Path.{sym, _∙_}
 use native.Mathlib.Omega.{arith}
 use borrow.Author.Needs.{needs}
-use Rattle.intake.proofs.Laws.{length-calls, fed-refused, fed-short, fed-all}
+use Rattle.intake.proofs.Laws.{length-calls, answered-refused, answered-short, answered-all}
 use Rattle.intake.proofs.take_datagram.Statement.{statement}
 use Rattle.intake.proofs.take_datagram.Tie as tie
 
@@ -23,11 +23,11 @@ returns c =
     let args = c .before .before .before .before .before .before .before .before .args in
     let open-datagram = c .before .before .before .before .before .open-datagram in
     let n = c .before .before .before .n in
-    fed-short (args .t) (args .d .now) (args .origin) (args .at) (args .answers .now) _ _ _
+    answered-short (args .t) (args .d .now) (args .origin) (args .at) (args .answers .now) _ _ _
     (sym (open-datagram .ensures) ∙ n .given .1) (c .before .count-calls .ensures) (c .if1 .taken)
 
-feed-requires : tie.Need-feed-requires
-feed-requires c κs =
+make-calls-requires : tie.Need-make-calls-requires
+make-calls-requires c κs =
     let args = c .before .before .before .before .before .before .before .before .before .args in
     let many : _ = c .before .before .count-calls .ensures ∙ sym (length-calls (args .origin) (args .at) _) in
     omega (arith, c .before .if1 .left, many)
@@ -36,7 +36,7 @@ returns-2 : tie.Need-returns-2
 returns-2 c =
     let args = c .before .before .before .before .before .before .args in
     let open-datagram = c .before .before .before .open-datagram in
-    fed-refused (args .t) (args .d .now) (args .origin) (args .at) (args .answers .now) _
+    answered-refused (args .t) (args .d .now) (args .origin) (args .at) (args .answers .now) _
     (sym (open-datagram .ensures) ∙ c .before .r .given .1)
 
 same-length : tie.Need-same-length
@@ -48,10 +48,10 @@ returns-3 c =
     let args = else .before .before .before .before .before .before .before .before .args in
     let open-datagram = else .before .before .before .before .before .open-datagram in
     let n = else .before .before .before .n in
-    let feed = c .before .before .feed in
-    fed-all (args .t) (args .d .now) (args .origin) (args .at) (args .answers .now) _ _ _
+    let made = c .before .before .make-calls in
+    answered-all (args .t) (args .d .now) (args .origin) (args .at) (args .answers .now) _ _ _
     (sym (open-datagram .ensures) ∙ n .given .1) (else .before .count-calls .ensures) _ _
-    (else .if1 .left) (feed .ensures .0) (feed .ensures .1)
+    (else .if1 .left) (made .ensures .0) (made .ensures .1)
 
 pub take-datagram-spec : {M : Type 1} → statement M
 take-datagram-spec =
@@ -62,7 +62,7 @@ take-datagram-spec =
     enum-known-n
     count-calls-requires
     returns
-    feed-requires
+    make-calls-requires
     returns-2
     same-length
     returns-3)

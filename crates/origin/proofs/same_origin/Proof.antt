@@ -12,16 +12,15 @@ same-address-requires c κs = search needs
 returns : tie.Need-returns
 unfolding sameOrigin
 returns c =
-    let same-address = c .before .same-address in
-    let if1 = c .if1 in
-    let e : _ = sym (same-address .ensures) ∙ not-true (same-address .result) (if1 .taken) in rw e refl
+    let same = c .before .same-address in
+    let e : _ = sym (same .ensures) ∙ not-true (same .result) (c .if1 .taken) in rw e refl
 
 returns-2 : tie.Need-returns-2
 unfolding sameOrigin
 returns-2 c =
-    let same-address = c .before .before .before .same-address in
-    let if1 = c .before .before .if1 in
-    let e : _ = sym (same-address .ensures) ∙ not-false (same-address .result) (if1 .left) in rw e refl
+    let b = c .before .before in
+    let same = b .before .same-address in
+    let e : _ = sym (same .ensures) ∙ not-false (same .result) (b .if1 .left) in rw e refl
 
 pub same-origin-spec : {M : Type 1} → statement M
 same-origin-spec = tie.close (tie.spec same-address-requires returns returns-2)

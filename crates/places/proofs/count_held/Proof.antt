@@ -1,6 +1,6 @@
 -- The word's operation by the law `ones-held`.
 use borrow.Author.Needs.{needs}
-use Rattle.places.proofs.Laws.{ones-held}
+use Rattle.places.proofs.Laws.Free.{ones-held}
 use Rattle.places.proofs.count_held.Statement.{statement}
 use Rattle.places.proofs.count_held.Tie as tie
 

@@ -1,6 +1,6 @@
 -- The word's operation by the law `trailing-free`.
 use borrow.Author.Needs.{needs}
-use Rattle.places.proofs.Laws.{trailing-free}
+use Rattle.places.proofs.Laws.Free.{trailing-free}
 use Rattle.places.proofs.lowest_free.Statement.{statement}
 use Rattle.places.proofs.lowest_free.Tie as tie
 

@@ -21,17 +21,13 @@ accept-requires c κs = search needs
 
 returns : tie.Need-returns
 returns c =
-    let count-items = c .before .before .before .before .count-items in
-    let r = c .before .before .r in
-    let refuse = c .refuse in
-    let e : _ = count-items .ensures in let g : _ = sym e ∙ r .given .1 in rw g (refuse .ensures, refl)
+    let count : _ = sym (c .before .before .before .before .count-items .ensures) ∙ c .before .before .r .given .1 in
+    rw count (c .refuse .ensures, refl)
 
 returns-2 : tie.Need-returns-2
 returns-2 c =
-    let count-items = c .before .before .before .before .count-items in
-    let n = c .before .before .n in
-    let accept = c .accept in
-    let e : _ = count-items .ensures in let g : _ = sym e ∙ n .given .1 in rw g (accept .ensures, refl)
+    let count : _ = sym (c .before .before .before .before .count-items .ensures) ∙ c .before .before .n .given .1 in
+    rw count (c .accept .ensures, refl)
 
 pub prunepocket-count-items-spec : {M : Type 1} → statement M
 prunepocket-count-items-spec =

@@ -1,11 +1,6 @@
 -- The answer and the value, by what the reader found and whether the item has the field.
-use mathlib.Core.Path.{_≡_, sym, ap, _∙_}
+use mathlib.Core.Path.{refl, sym, _∙_}
 use borrow.Author.Needs.{needs}
-use Rattle.idms.specs.Rows.{fieldOf}
-use Rattle.idms.specs.declared.Field.{Field}
-use Rattle.rtcp.specs.Answers.{itemOf}
-use Rattle.idms.specs.declared.Found.{Found}
-use Rattle.prunepocket.specs.Answers.{fieldAnswer, fieldAfter, cellAnswer, cellAfter}
 use Rattle.prunepocket.proofs.prunepocket_item_field.Statement.{statement}
 use Rattle.prunepocket.proofs.prunepocket_item_field.Tie as tie
 
@@ -35,51 +30,22 @@ accept-requires c κs = search needs
 
 returns : tie.Need-returns
 returns c =
-    let datagram = c .before .before .before .before .before .before .args .datagram .now in
-    let index = c .before .before .before .before .before .before .args .index in
-    let r = c .before .before .r in
-    let item-at = c .before .before .before .before .item-at in
-    let refuse = c .refuse in
-    let field = c .before .before .before .before .before .before .args .field in
-    let value = c .before .before .before .before .before .before .args .value .now in
-    let g : itemOf datagram index ≡ Found.Refused (r .given .0 .0) = sym (item-at .ensures) ∙ r .given .1 in (
-      refuse .ensures ∙ sym (ap (λ (x : Found). fieldAnswer x field) g),
-      sym (ap (λ (x : Found). fieldAfter x field value) g),
-    )
+    let found : _ = sym (c .before .before .before .before .item-at .ensures) ∙ c .before .before .r .given .1 in
+    rw found (c .refuse .ensures, refl)
 
 returns-2 : tie.Need-returns-2
 returns-2 c =
-    let datagram = c .before .before .before .before .before .before .before .before .args .datagram .now in
-    let index = c .before .before .before .before .before .before .before .before .args .index in
-    let x′ = c .before .before .before .before .x in
-    let item-at = c .before .before .before .before .before .before .item-at in
-    let field = c .before .before .before .before .before .before .before .before .args .field in
-    let field-at = c .before .before .field-at in
-    let enum-told = c .enum-told in
-    let value = c .before .before .before .before .before .before .before .before .args .value .now in
-    let g : itemOf datagram index ≡ Found.Item (x′ .given .0 .0) = sym (item-at .ensures) ∙ x′ .given .1 in
-    let h : fieldOf (x′ .given .0 .0) field ≡ Field.Absent = sym (field-at .ensures) ∙ enum-told .given .1 in (
-      sym (ap (λ (x : Found). fieldAnswer x field) g ∙ ap cellAnswer h),
-      sym (ap (λ (x : Found). fieldAfter x field value) g ∙ ap (λ (y : Field). cellAfter y value) h),
-    )
+    let at-item = c .before .before .before .before in
+    let found : _ = sym (at-item .before .before .item-at .ensures) ∙ at-item .x .given .1 in
+    let absent : _ = sym (c .before .before .field-at .ensures) ∙ c .enum-told .given .1 in
+    rw (found, absent) (refl, refl)
 
 returns-3 : tie.Need-returns-3
 returns-3 c =
-    let datagram = c .before .before .before .before .before .before .before .before .before .before .args .datagram .now in
-    let index = c .before .before .before .before .before .before .before .before .before .before .args .index in
-    let x′ = c .before .before .before .before .before .before .x in
-    let item-at = c .before .before .before .before .before .before .before .before .item-at in
-    let field = c .before .before .before .before .before .before .before .before .before .before .args .field in
-    let v = c .before .before .v in
-    let field-at = c .before .before .before .before .field-at in
-    let accept = c .accept in
-    let value = c .before .before .before .before .before .before .before .before .before .before .args .value .now in
-    let g : itemOf datagram index ≡ Found.Item (x′ .given .0 .0) = sym (item-at .ensures) ∙ x′ .given .1 in
-    let h : fieldOf (x′ .given .0 .0) field ≡ Field.Value (v .given .0 .0) =
-    sym (field-at .ensures) ∙ v .given .1 in (
-      accept .ensures ∙ sym (ap (λ (x : Found). fieldAnswer x field) g ∙ ap cellAnswer h),
-      sym (ap (λ (x : Found). fieldAfter x field value) g ∙ ap (λ (y : Field). cellAfter y value) h),
-    )
+    let at-item = c .before .before .before .before .before .before in
+    let found : _ = sym (at-item .before .before .item-at .ensures) ∙ at-item .x .given .1 in
+    let value : _ = sym (c .before .before .before .before .field-at .ensures) ∙ c .before .before .v .given .1 in
+    rw (found, value) (c .accept .ensures, refl)
 
 pub prunepocket-item-field-spec : {M : Type 1} → statement M
 prunepocket-item-field-spec =

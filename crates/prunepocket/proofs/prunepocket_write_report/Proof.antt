@@ -1,45 +1,22 @@
 -- Fields that do not cross are refused here, and all others by the writer.
 use native.Mathlib.Omega.{arith}
 use borrow.Author.Needs.{needs}
-use Rattle.prunepocket.proofs.Laws.{out-by-payload, out-by-p, out-by-fields, wrote-nothing, wrote}
-use Rattle.prunepocket.specs.Messages.{reportOf, reportIsOut}
-use Rattle.writer.specs.Messages.{reportWords}
+use Rattle.prunepocket.proofs.Laws.{out-by-payload, out-by-p, wrote-nothing, wrote-report}
+use Rattle.prunepocket.specs.Messages.{reportOf}
 use Rattle.prunepocket.proofs.prunepocket_write_report.Statement.{statement}
 use Rattle.prunepocket.proofs.prunepocket_write_report.Tie as tie
 
 returns : tie.Need-returns
 returns c =
-    let p = c .before .before .args .p in
-    let sender = c .before .before .args .sender in
-    let payload-type = c .before .before .args .payload-type in
-    let group = c .before .before .args .group in
-    let media = c .before .before .args .media in
-    let received = c .before .before .args .received in
-    let rtp = c .before .before .args .rtp in
-    let presented = c .before .before .args .presented in
-    let bytes = c .before .before .args .bytes .now in
-    let count = c .before .before .args .count .now in
-    let if1 = c .if1 in
-    wrote-nothing (reportIsOut p (reportOf sender payload-type p group media received rtp presented))
-    (reportWords (reportOf sender payload-type p group media received rtp presented)) bytes count
-    (out-by-payload p (reportOf sender payload-type p group media received rtp presented) (if1 .taken))
+    let a = c .before .before .args in
+    let r = reportOf (a .sender) (a .payload-type) (a .p) (a .group) (a .media) (a .received) (a .rtp) (a .presented) in
+    wrote-nothing _ _ _ _ (out-by-payload (a .p) r (c .if1 .taken))
 
 returns-2 : tie.Need-returns-2
 returns-2 c =
-    let p = c .before .before .before .args .p in
-    let sender = c .before .before .before .args .sender in
-    let payload-type = c .before .before .before .args .payload-type in
-    let group = c .before .before .before .args .group in
-    let media = c .before .before .before .args .media in
-    let received = c .before .before .before .args .received in
-    let rtp = c .before .before .before .args .rtp in
-    let presented = c .before .before .before .args .presented in
-    let bytes = c .before .before .before .args .bytes .now in
-    let count = c .before .before .before .args .count .now in
-    let if2 = c .if2 in
-    wrote-nothing (reportIsOut p (reportOf sender payload-type p group media received rtp presented))
-    (reportWords (reportOf sender payload-type p group media received rtp presented)) bytes count
-    (out-by-p p (reportOf sender payload-type p group media received rtp presented) (if2 .taken))
+    let a = c .before .before .before .args in
+    let r = reportOf (a .sender) (a .payload-type) (a .p) (a .group) (a .media) (a .received) (a .rtp) (a .presented) in
+    wrote-nothing _ _ _ _ (out-by-p (a .p) r (c .if2 .taken))
 
 cast-t14 : tie.Need-cast-t14
 cast-t14 c = search needs
@@ -58,24 +35,11 @@ same-length c = search needs
 
 returns-3 : tie.Need-returns-3
 returns-3 c =
-    let p = c .before .before .before .before .before .before .before .before .before .before .args .p in
-    let sender = c .before .before .before .before .before .before .before .before .before .before .args .sender in
-    let payload-type = c .before .before .before .before .before .before .before .before .before .before .args .payload-type in
-    let group = c .before .before .before .before .before .before .before .before .before .before .args .group in
-    let media = c .before .before .before .before .before .before .before .before .before .before .args .media in
-    let received = c .before .before .before .before .before .before .before .before .before .before .args .received in
-    let rtp = c .before .before .before .before .before .before .before .before .before .before .args .rtp in
-    let presented = c .before .before .before .before .before .before .before .before .before .before .args .presented in
-    let bytes = c .before .before .before .before .before .before .before .before .before .before .args .bytes .now in
-    let count = c .before .before .before .before .before .before .before .before .before .before .args .count .now in
-    let write-report = c .before .before .before .before .before .write-report in
-    let answer-write = c .answer-write in
-    let bytes-written = c .before .bytes-written in
-    wrote (reportIsOut p (reportOf sender payload-type p group media received rtp presented))
-    (reportWords (reportOf sender payload-type p group media received rtp presented)) bytes count
-    (write-report .result) (answer-write .result) (write-report .last .1 .0) (bytes-written .result)
-    (rw (out-by-fields p (reportOf sender payload-type p group media received rtp presented) (omega arith))
-    (write-report .ensures)) (answer-write .ensures) (bytes-written .ensures)
+    let at-write = c .before .before .before .before .before in
+    let a = at-write .before .before .before .before .before .args in
+    let r = reportOf (a .sender) (a .payload-type) (a .p) (a .group) (a .media) (a .received) (a .rtp) (a .presented) in
+    wrote-report (a .p) r _ _ _ _ _ _ (omega arith) (at-write .write-report .ensures) (c .answer-write .ensures)
+    (c .before .bytes-written .ensures)
 
 pub prunepocket-write-report-spec : {M : Type 1} → statement M
 prunepocket-write-report-spec =

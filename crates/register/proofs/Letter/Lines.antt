@@ -8,7 +8,7 @@ use mathlib.Core.Path.{_≡_, refl, sym, ap, _∙_}
 use lib.Dec.{ltb, eqb}
 use native.Mathlib.Omega.{arith}
 use borrow.Author.Tests.{eqb-true, eq-eqb, ltb-true, lt-ltb}
-use Rattle.register.specs.Register.{some}
+use Rattle.register.specs.Register.{any}
 use Rattle.register.specs.Letter.{Line, NoneOf, MeansBehind, Means}
 use Rattle.register.proofs.Rows.{clash}
 
@@ -52,23 +52,23 @@ untold true tell h = absurd (h (tell .0 refl))
 untold false tell h = refl
 
 -- some element passes
-pub tells-some :
+pub tells-any :
     {A : Type 0} (test : A → Bool) (xs : List A) →
-    Tells (some test xs) ((x : A) × List·Memᴰ x xs × (test x ≡ true))
-unfolding some
-tells-some test [] = (λ z. clash z, λ found. absurd (List·Memᴰ·not-nil (found .1)))
-tells-some {A} test (y ∷ ys) = go (test y) refl (tells-some test ys)
+    Tells (any test xs) ((x : A) × List·Memᴰ x xs × (test x ≡ true))
+unfolding any
+tells-any test [] = (λ z. clash z, λ found. absurd (List·Memᴰ·not-nil (found .1)))
+tells-any {A} test (y ∷ ys) = go (test y) refl (tells-any test ys)
   where
     go :
-        (t : Bool) → test y ≡ t → Tells (some test ys) ((x : A) × List·Memᴰ x ys × (test x ≡ true)) →
-        Tells (t || some test ys) ((x : A) × List·Memᴰ x (y ∷ ys) × (test x ≡ true))
+        (t : Bool) → test y ≡ t → Tells (any test ys) ((x : A) × List·Memᴰ x ys × (test x ≡ true)) →
+        Tells (t || any test ys) ((x : A) × List·Memᴰ x (y ∷ ys) × (test x ≡ true))
     go true e rest = (λ z. (y, List·Memᴰ·head refl, e), λ found. refl)
     go false e rest = (
       λ z. let found : _ = rest .0 z in (found .0, List·Memᴰ·tail (found .1), found .2),
       λ found. behind (found .0) (found .1) (found .2),
     )
       where
-        behind : (x : A) → List·Memᴰ x (y ∷ ys) → test x ≡ true → some test ys ≡ true
+        behind : (x : A) → List·Memᴰ x (y ∷ ys) → test x ≡ true → any test ys ≡ true
         behind x (List·Memᴰ·head q) f = clash (sym e ∙ ap test (sym q) ∙ f)
         behind x (List·Memᴰ·tail m) f = rest .1 (x, m, f)
 

@@ -1,7 +1,8 @@
 -- Who stands after one event more, and which rows a call leaves.
 use Prim.Native.Nat.{ℕ}
 use mathlib.Core.Bool.{Bool, true, false, cond}
-use mathlib.Core.List.{List, [], _∷_, _++_, append-assoc, List·Memᴰ, List·Memᴰ·head, List·Memᴰ·tail, List·Memᴰ·not-nil, List·Memᴰ·eq-of-singleton, List·Memᴰ·append-cases}
+use mathlib.Core.List.{List, [], _∷_, _++_, append-assoc, List·Memᴰ, List·Memᴰ·head, List·Memᴰ·tail, List·Memᴰ·not-nil}
+use mathlib.Core.List.{List·Memᴰ·eq-of-singleton, List·Memᴰ·append-cases}
 use mathlib.Core.Logic.{_⊎_, inl, inr, ⊎-elim, _↔_}
 use mathlib.Core.Path.{_≡_, refl, sym, ap, _∙_}
 use native.Mathlib.Omega.{arith}
@@ -13,7 +14,7 @@ use Rattle.register.specs.Promise.{Unique}
 use Rattle.register.specs.Letter.{Event, got, History, OfEachCall, Ends, Stands}
 use Rattle.register.proofs.Rows.{clash}
 use Rattle.register.proofs.Unique.{unique-rest, unique-tail}
-use Rattle.register.proofs.Letter.Lines.{tells-some}
+use Rattle.register.proofs.Letter.Lines.{tells-any}
 
 -- ---- a history with one event more
 
@@ -130,7 +131,7 @@ stands-more o h e x = (earlier, ⊎-elim anew still)
 -- a row of distinct numbers is alone with its number
 pub alone : (r y : Record) (rows : Rows) → Unique (r ∷ rows) → List·Memᴰ y rows → y .source ≡ r .source → ⊥
 alone r y rows u m e =
-    let found : _ = tells-some (hasNumber (r .source)) rows .1 (y, m, eq-eqb (y .source) (r .source) e) in
+    let found : _ = tells-any (hasNumber (r .source)) rows .1 (y, m, eq-eqb (y .source) (r .source) e) in
     clash (sym (unique-tail r rows u) ∙ found)
 
 -- a report's own row, or a row of another number

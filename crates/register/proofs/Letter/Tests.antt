@@ -7,18 +7,24 @@ use lib.Dec.{ltb, eqb}
 use lib.ListN.{length}
 use native.Mathlib.Omega.{arith}
 use borrow.Author.Tests.{eqb-true, eq-eqb, ne-eqb}
+use Rattle.refusals.specs.Refusals.{badOpening}
 use Rattle.times.specs.Times.{isFar, isAged, isBadlyPresented}
 use Rattle.origin.specs.declared.Origin.{Origin}
 use Rattle.origin.specs.Origins.{sameOrigin}
 use Rattle.origin.proofs.Laws.{same-origin-equal, equal-same-origin}
 use Rattle.register.specs.declared.Record.{Record}
 use Rattle.register.specs.declared.Reading.{Reading}
-use Rattle.register.specs.Register.{Opening, Rows, Call, isRefusedOpening, keep, some, presents, hasNumber, isHeldElsewhere, isOtherStream, reportChecks, hasNoRoom, farewellChecks, answer, freshAt}
+use Rattle.register.specs.Register.{Opening, Rows, Call, isRefusedOpening, filter, any, presents, hasNumber}
+use Rattle.register.specs.Register.{isHeldElsewhere, isOtherStream, reportChecks, hasNoRoom, farewellChecks}
+use Rattle.register.specs.Register.{answer, freshAt}
 use Rattle.register.specs.Promise.{Unique}
-use Rattle.register.specs.Letter.{History, OtherStream, StillFresh, BadOpening, BadlyPresented, Stands, AreAll, HeldElsewhere, NotHeld, NoRoom, openingLines, linesOf, NoneOf, MeansBehind, Means}
-use Rattle.register.proofs.Rows.{member-kept, length-keep-<}
+use Rattle.register.specs.Letter.{History, OtherStream, StillFresh, BadOpening, BadlyPresented, Stands, AreAll}
+use Rattle.register.specs.Letter.{HeldElsewhere, NotHeld, NoRoom, openingLines, linesOf, NoneOf, MeansBehind}
+use Rattle.register.specs.Letter.{Means}
+use Rattle.register.proofs.Rows.{member-kept, length-filter-<}
 use Rattle.register.proofs.Unique.{unique-rest}
-use Rattle.register.proofs.Letter.Lines.{Tells, tells-equal, tells-less, tells-none, tells-not, tells-and, tells-or, tells-some, stable, first-means}
+use Rattle.register.proofs.Letter.Lines.{Tells, tells-equal, tells-less, tells-none, tells-not, tells-and}
+use Rattle.register.proofs.Letter.Lines.{tells-or, tells-any, stable, first-means}
 use Rattle.register.proofs.Letter.Members.{alone}
 
 -- ---- what the tests on a report's own fields tell
@@ -59,7 +65,7 @@ tells-bad-opening o =
     (tells-or _ _ (tells-none (o .rate)) (tells-less 192000 (o .rate))))
 
 -- what opening answers means what the table of refusals says
-pub opening-means : (o : Opening) → Means (openingLines o) (cond (isRefusedOpening o) 12 0)
+pub opening-means : (o : Opening) → Means (openingLines o) (cond (isRefusedOpening o) badOpening 0)
 unfolding NoneOf MeansBehind
 opening-means o =
     first-means (openingLines o) (isRefusedOpening o ∷ []) (tells-bad-opening o, tt) refl
@@ -72,9 +78,9 @@ length-within [] ys u within = omega arith
 length-within (x ∷ xs) ys u within =
     let other : Record → Bool = λ r. not (hasNumber (x .source) r) in
     let own : other x ≡ false = ap not (eq-eqb (x .source) (x .source) refl) in
-    let fewer : _ = length-keep-< other x ys own (within x (List·Memᴰ·head refl)) in
+    let fewer : _ = length-filter-< other x ys own (within x (List·Memᴰ·head refl)) in
     let rest : _ =
-    length-within xs (keep other ys) (unique-rest x xs u)
+    length-within xs (filter other ys) (unique-rest x xs u)
     (λ y m.
     member-kept other y ys
     (ap not (ne-eqb (y .source) (x .source) (alone x y xs u m)))
@@ -92,16 +98,16 @@ same-length o h xs ys a b =
 -- ---- from rows that are all that stand
 
 module _ (o : Opening) (h : History) (rows : Rows) (all : AreAll o h rows) where
-  tells-held : (source : ℕ) → Tells (some (hasNumber source) rows) ((x : Record) × Stands o h x × (x .source ≡ source))
+  tells-held : (source : ℕ) → Tells (any (hasNumber source) rows) ((x : Record) × Stands o h x × (x .source ≡ source))
   tells-held source = (
-    λ e. let found : _ = tells-some (hasNumber source) rows .0 e in
+    λ e. let found : _ = tells-any (hasNumber source) rows .0 e in
         (found .0, all .those (found .0) .0 (found .1), eqb-true (found .0 .source) source (found .2)),
     λ found.
-        tells-some (hasNumber source) rows .1
+        tells-any (hasNumber source) rows .1
         (found .0, all .those (found .0) .1 (found .1), eq-eqb (found .0 .source) source (found .2)),
   )
 
-  tells-not-held : (source : ℕ) → Tells (not (some (hasNumber source) rows)) (NotHeld o h source)
+  tells-not-held : (source : ℕ) → Tells (not (any (hasNumber source) rows)) (NotHeld o h source)
   tells-not-held source =
       let none : _ = tells-not _ (tells-held source) in
       (λ e x s f. none .0 e (x, s, f), λ free. none .1 (λ found. free (found .0) (found .1) (found .2)))
@@ -110,11 +116,11 @@ module _ (o : Opening) (h : History) (rows : Rows) (all : AreAll o h rows) where
       (source : ℕ) (origin : Origin) →
       Tells (isHeldElsewhere rows source origin) (HeldElsewhere o h source origin)
   tells-elsewhere source origin = (
-    λ e. let found : _ = tells-some there rows .0 e in
+    λ e. let found : _ = tells-any there rows .0 e in
         let both : _ = own (found .0) .0 (found .2) in
         (found .0, all .those (found .0) .0 (found .1), both .0, both .1),
     λ found.
-        tells-some there rows .1
+        tells-any there rows .1
         (found .0, all .those (found .0) .1 (found .1), own (found .0) .1 (found .2, found .3)),
   )
     where
@@ -164,7 +170,7 @@ module _ (o : Opening) (h : History) (rows : Rows) (all : AreAll o h rows) where
       refl
   answer-means (Call.farewell source origin) =
       first-means (linesOf o h (Call.farewell source origin))
-      (not (some (hasNumber source) rows) ∷ isHeldElsewhere rows source origin ∷ [])
+      (not (any (hasNumber source) rows) ∷ isHeldElsewhere rows source origin ∷ [])
       (tells-not-held source, (tells-elsewhere source origin, tt))
       refl
   answer-means (Call.sweep at) = (λ e. tt, λ none. refl)

@@ -7,15 +7,20 @@ use mathlib.Core.Path.{_≡_, refl, sym, ap, ap₂, subst, _∙_}
 use lib.Dec.{eqb}
 use native.Mathlib.Omega.{arith}
 use borrow.Author.Tests.{eqb-true, eqb-false, eq-eqb, ne-eqb}
+use Rattle.refusals.specs.Refusals.{otherOrigin}
 use Rattle.register.specs.declared.Record.{Record}
 use Rattle.register.specs.declared.Reading.{Reading}
-use Rattle.register.specs.Register.{Opening, Rows, Call, keep, hasNumber, isOtherStream, answer, freshAt, accepted, after, answers, afterAll}
-use Rattle.register.specs.Letter.{got, History, history, madeIn, OfEachCall, OtherStream, Ends, Stands, AreAll, HeldElsewhere, linesOf, NoneOf, MeansBehind, Means, FromTwin, TwinGets, TwinAltersNothing, Letter}
+use Rattle.register.specs.Register.{Opening, Rows, Call, filter, hasNumber, isOtherStream, answer, freshAt}
+use Rattle.register.specs.Register.{accepted, after, answers, afterAll}
+use Rattle.register.specs.Letter.{got, History, history, madeIn, OfEachCall, OtherStream, Ends, Stands, AreAll}
+use Rattle.register.specs.Letter.{HeldElsewhere, linesOf, NoneOf, MeansBehind, Means, FromTwin, TwinGets}
+use Rattle.register.specs.Letter.{TwinAltersNothing, Letter}
 use Rattle.register.proofs.History.{rows-append}
 use Rattle.register.proofs.Rows.{clash, kept-member, member-kept}
 use Rattle.register.proofs.Permuted.{unique-after}
 use Rattle.register.proofs.Letter.Lines.{Tells, tells-equal, tells-not, stable}
-use Rattle.register.proofs.Letter.Members.{no-cons, each-none, each-more, StandsAfter, stands-more, OwnOrOther, member-renewed}
+use Rattle.register.proofs.Letter.Members.{no-cons, each-none, each-more, StandsAfter, stands-more, OwnOrOther}
+use Rattle.register.proofs.Letter.Members.{member-renewed}
 use Rattle.register.proofs.Letter.Tests.{tells-other-stream, tells-fresh, answer-means}
 
 -- ---- the rows that a call leaves
@@ -111,10 +116,10 @@ after-stand o h rows all call y = go (eqb (answer o rows call) 0) refl
         (subst (λ (n : ℕ). List·Memᴰ y (accepted o rows call) ↔ StandsAfter o h (got call n) y) (sym none)
         (accepted-stand o h rows all call y))
     go false e =
-        let some-number : answer o rows call ≡ 0 → ⊥ = eqb-false (answer o rows call) 0 e in
-        rw (after-refused o rows call some-number) (
-          λ m. inr (all .those y .0 m, ends-accepted o rows call y some-number),
-          ⊎-elim (λ by. anew (by .0) some-number (by .1)) (λ s. all .those y .1 (s .0)),
+        let any-number : answer o rows call ≡ 0 → ⊥ = eqb-false (answer o rows call) 0 e in
+        rw (after-refused o rows call any-number) (
+          λ m. inr (all .those y .0 m, ends-accepted o rows call y any-number),
+          ⊎-elim (λ by. anew (by .0) any-number (by .1)) (λ s. all .those y .1 (s .0)),
         )
       where
         anew :
@@ -167,7 +172,7 @@ twin-refused o h (Call.report y at) number means x s twin =
     go false tell e = omega (arith, gets .1 (λ other. clash (tell .1 other)))
 twin-refused o h (Call.farewell source origin) number means x s twin = (gets, λ e. omega (arith, gets))
   where
-    gets : number ≡ 14
+    gets : number ≡ otherOrigin
     gets = means .1 .0 .1 ((λ free. free x s (sym (twin .0)), tt), (x, s, sym (twin .0), λ e. twin .1 (sym e)))
 twin-refused o h (Call.sweep at) number means x s twin = absurd twin
 
@@ -205,7 +210,7 @@ follows o h rows (call ∷ calls) told each =
     rw (append-assoc h (got call (answer o rows call) ∷ []) _) at next
 
 told-none : (o : Opening) → Told o [] []
-unfolding keep madeIn afterAll
+unfolding filter madeIn afterAll
 told-none o =
     record {
       all = record {

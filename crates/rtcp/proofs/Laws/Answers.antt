@@ -1,66 +1,32 @@
 -- Laws of the public answers, by what was checked.
-use Prim.Native.Nat.{ℕ, suc, zero, _-_, _%_, _≤_, _<_}
+use Prim.Native.Nat.{ℕ, suc, zero, _-_, _≤_, _<_}
 use mathlib.Core.Path.{_≡_, refl, sym, ap}
 use mathlib.Core.List.{List, _∷_}
-use mathlib.Core.Bool.{true, false, not, _||_}
 use lib.ListN.{length, getD}
-use lib.Dec.{eqb, ltb}
 use native.Mathlib.Omega.{arith}
-use borrow.Author.Tests.{eqb-true, not-false, lt-ltb, le-ltb}
+use borrow.Author.Tests.{lt-ltb, le-ltb}
 use Rattle.idms.specs.declared.Placed.{Placed}
 use Rattle.idms.specs.declared.Refusal.{Refusal}
-use Rattle.rtcp.specs.declared.walk.Count.{Count}
 use Rattle.idms.specs.declared.Found.{Found}
+use Rattle.refusals.specs.Refusals.{noSuchItem}
+use Rattle.packet.specs.Checks.{passed, refused}
+use Rattle.datagram.specs.declared.Count.{Count}
+use Rattle.datagram.specs.Datagram.{datagramCheck, datagramItems}
+use Rattle.datagram.specs.Answers.{refusal, itemCount}
+use Rattle.datagram.proofs.Laws.Answers.{datagram-passed, datagram-refused}
 use Rattle.rtcp.specs.declared.cursor.Opened.{Opened}
-use Rattle.rtcp.specs.Refusals.{passed, refused}
-use Rattle.rtcp.specs.Datagram.{packetsCheck, packetsItems, lengthIsBad, datagramCheck, datagramItems}
-use Rattle.rtcp.specs.Answers.{refusal, counted, countOf, nothing, pick, itemOf, openedOf}
+use Rattle.rtcp.specs.Answers.{nothing, pick, itemOf, cursorOn}
 use Rattle.rtcp.specs.Cursor.{start}
-use Rattle.rtcp.proofs.Laws.Packet.{or-false}
-use Rattle.rtcp.proofs.Laws.Walk.{counted-items, counted-refused}
 
--- ---- lengthIsBad
+-- ---- cursorOn
 
-pub length-words : (n : ℕ) → lengthIsBad n ≡ false → n % 4 ≡ 0
-length-words n h =
-    let rest : _ = or-false (eqb n 0 || not (eqb (n % 4) 0)) (ltb 2048 n) h in
-    let words : _ = or-false (eqb n 0) (not (eqb (n % 4) 0)) (rest .0) in
-    eqb-true (n % 4) 0 (not-false (eqb (n % 4) 0) (words .1))
+pub cursor-passed : (d : List ℕ) (n : ℕ) → itemCount d ≡ Count.Items n → cursorOn d ≡ Opened.Items n start
+unfolding cursorOn
+cursor-passed d n e = let m : _ = datagram-passed d n e in rw (m .0) (ap (λ (k : ℕ). Opened.Items k start) (sym (m .1)))
 
--- ---- countOf
-
-pub count-bad-length : (d : List ℕ) → lengthIsBad (length d) ≡ true → countOf d ≡ Count.Refused (refusal 1 0)
-unfolding countOf datagramCheck
-count-bad-length d h = rw h
-
-pub count-of-packets :
-    (d : List ℕ) → lengthIsBad (length d) ≡ false → countOf d ≡ counted (packetsCheck d 0) (length (packetsItems d 0))
-unfolding countOf datagramCheck datagramItems
-count-of-packets d h = rw h
-
-pub count-of-refused :
-    (d : List ℕ) (number place : ℕ) → datagramCheck d ≡ refused number place → countOf d ≡ Count.Refused (refusal number place)
-unfolding countOf
-count-of-refused d number place e = rw e
-
--- what an answer says of the checks
-pub count-passed : (d : List ℕ) (n : ℕ) → countOf d ≡ Count.Items n → (datagramCheck d ≡ passed) × (n ≡ length (datagramItems d))
-unfolding countOf
-count-passed d n e = counted-items (datagramCheck d) (length (datagramItems d)) n e
-
-pub count-refused : (d : List ℕ) (r : Refusal) → countOf d ≡ Count.Refused r → datagramCheck d ≡ refused (r .number) (r .place)
-unfolding countOf
-count-refused d r e = counted-refused (datagramCheck d) (length (datagramItems d)) r e
-
--- ---- openedOf
-
-pub opened-passed : (d : List ℕ) (n : ℕ) → countOf d ≡ Count.Items n → openedOf d ≡ Opened.Items n start
-unfolding openedOf
-opened-passed d n e = let m : _ = count-passed d n e in rw (m .0) (ap (λ (k : ℕ). Opened.Items k start) (sym (m .1)))
-
-pub opened-refused : (d : List ℕ) (r : Refusal) → countOf d ≡ Count.Refused r → openedOf d ≡ Opened.Refused r
-unfolding openedOf
-opened-refused d r e = rw (count-refused d r e)
+pub cursor-refused : (d : List ℕ) (r : Refusal) → itemCount d ≡ Count.Refused r → cursorOn d ≡ Opened.Refused r
+unfolding cursorOn
+cursor-refused d r e = rw (datagram-refused d r e)
 
 -- ---- an item behind the first
 
@@ -78,7 +44,7 @@ item-refused d index number place e = rw e
 
 pub item-past :
     (d : List ℕ) (index : ℕ) → datagramCheck d ≡ passed → length (datagramItems d) ≤ index
-    → itemOf d index ≡ Found.Refused (refusal 9 0)
+    → itemOf d index ≡ Found.Refused (refusal noSuchItem 0)
 unfolding itemOf pick
 item-past d index e h = rw (e, le-ltb index (length (datagramItems d)) h)
 

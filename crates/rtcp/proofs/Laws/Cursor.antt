@@ -1,6 +1,6 @@
 -- A cursor gives the items of a datagram in turn. Each step either ends, gives the first of the items that remain, or
 -- passes something that gives none; and what is left to step over falls, so that the next item is found.
-use Prim.Native.Nat.{ℕ, suc, zero, _+_, _-_, _*_, _%_, _≤_, _<_}
+use Prim.Native.Nat.{ℕ, suc, zero, _+_, _-_, _%_, _≤_, _<_}
 use mathlib.Core.Path.{_≡_, refl, sym, ap, _∙_}
 use mathlib.Core.List.{List, [], _∷_, _++_}
 use mathlib.Core.Bool.{Bool, true, false}
@@ -9,21 +9,28 @@ use lib.Dec.{ltb, leb}
 use native.Mathlib.Omega.{arith}
 use borrow.Author.Tests.{ltb-true, ltb-false, leb-true, leb-false}
 use Rattle.idms.specs.declared.Placed.{Placed}
+use Rattle.packet.specs.declared.contents.Packet.{Packet}
+use Rattle.packet.specs.declared.block.Block.{Block}
+use Rattle.packet.specs.declared.bytes.Source.{Source}
+use Rattle.packet.specs.Checks.{passed}
+use Rattle.packet.specs.Bytes.{be32}
+use Rattle.packet.specs.Packet.{size, content}
+use Rattle.packet.specs.Contents.{contents, readable}
+use Rattle.packet.specs.Answers.{blockIs, sourceIs}
+use Rattle.packet.proofs.Laws.Bytes.{source-inside}
+use Rattle.packet.proofs.Laws.Checks.{check-passes}
+use Rattle.packet.proofs.Laws.Packet.{Readable}
+use Rattle.packet.proofs.Laws.Contents.{Holds, unread, sources, blocks, setting, holds, readable-packet, packet-read, packet-unread, packet-outside, packet-passed}
+use Rattle.packet.proofs.Laws.Blocks.{met-skipped}
+use Rattle.datagram.specs.Datagram.{blocksCheck, partsItems, packetsCheck, packetsItems, lengthIsBad, datagramCheck, datagramItems}
+use Rattle.datagram.proofs.Laws.Datagram.{sources-part, sources-end, blocks-end, PacketsTurn, packets-turn, packets-end, items-of, check-of}
 use Rattle.rtcp.specs.declared.cursor.State.{State}
 use Rattle.rtcp.specs.declared.cursor.Cursor.{Cursor}
 use Rattle.rtcp.specs.declared.cursor.Step.{Step}
 use Rattle.rtcp.specs.declared.cursor.Advance.{Advance}
-use Rattle.rtcp.specs.Refusals.{Check, passed, refused}
-use Rattle.rtcp.specs.Bytes.{be32}
-use Rattle.rtcp.specs.Packet.{packetType, count, size, content}
-use Rattle.rtcp.specs.Report.{blockSize, blockCheck, reports}
-use Rattle.rtcp.specs.Datagram.{blocksCheck, blocksItems, packetItems, packetsCheck, packetsItems, lengthIsBad, datagramCheck, datagramItems}
-use Rattle.rtcp.specs.Cursor.{past, readable, entered, torn, advance, left, cursorAt, seek, nextOf, start, remaining, given}
-use Rattle.rtcp.proofs.Laws.Packet.{check-passes, least-bye, least-xr}
-use Rattle.rtcp.proofs.Laws.Blocks.{items-none, items-one, block-inside}
-use Rattle.rtcp.proofs.Laws.Datagram.{sources-part, sources-end, blocks-turn, blocks-end, PacketsTurn, packets-turn, packets-end, items-bye, items-xr, items-settings, items-unread, check-xr, Apart, bye, xr, settings, unread, apart}
-use Rattle.rtcp.proofs.Laws.Answers.{length-words}
-use Rattle.rtcp.proofs.Laws.Advance.{packet-torn, packet-stops, packet-entered, readable-there, Readable, readable-packet, entered-bye, entered-xr, entered-settings, entered-unread, sources-behind, sources-torn, sources-item, blocks-behind, blocks-torn, blocks-stop, blocks-pass, blocks-item, whole-word}
+use Rattle.rtcp.specs.Cursor.{packetStep, advance, left, cursorAt, seek, nextOf, start, remaining, given}
+use Rattle.rtcp.proofs.Laws.Blocks.{report-turn, skipped-turn, not-refused}
+use Rattle.rtcp.proofs.Laws.Advance.{at-packet, behind-sources, at-source, behind-blocks, at-block}
 
 -- ---- left falls with each step that gives no item
 
@@ -33,54 +40,45 @@ data Falls (d : List ℕ) (c : State) : Advance → Type 0 where
   gives : (x : Placed) (n : State) → Falls d c (Advance.Item x n)
   falls : (n : State) → left d n < left d c → Falls d c (Advance.Onward n)
 
-entered-falls : (d : List ℕ) (p : ℕ) → 4 ≤ length d - p → readable d p ≡ true → Falls d (State.Packet p) (entered d p)
-entered-falls d p h e = go (apart (packetType d p))
-  where
-    known : Readable d p
-    known = readable-packet d p e
-
-    go : Apart (packetType d p) → Falls d (State.Packet p) (entered d p)
-    go (bye t) =
-        rw (entered-bye d p t)
-        (falls (State.Sources (p + 4) (p + (4 + 4 * count d p)) (p + size d p))
-        (omega (arith, known .fits, known .inside, least-bye _ _ _ (known .enough) t)))
-    go (xr t) =
-        rw (entered-xr d p t)
-        (falls (State.Blocks (be32 d (p + 4)) (p + 8) (p + content d p) (p + size d p))
-        (omega (arith, known .fits, known .inside, least-xr _ _ _ (known .enough) t)))
-    go (settings t) = rw (entered-settings d p t) (gives _ _)
-    go (unread a b c) = rw (entered-unread d p a b c) (falls (past d p) (omega (arith, known .fits)))
+packet-falls :
+    (d : List ℕ) (p : ℕ) {x : Packet} → Readable d p → Holds d p x → Falls d (State.Packet p) (packetStep d p x)
+packet-falls d p h unread = falls (State.Packet (p + size d p)) (omega (arith, h .fits))
+packet-falls d p h (sources least l m) =
+    falls (State.Sources (p + 4) (p + least) (p + size d p)) (omega (arith, h .fits, h .inside, m))
+packet-falls d p h (blocks m) =
+    falls (State.Blocks (be32 d (p + 4)) (p + 8) (p + content d p) (p + size d p)) (omega (arith, h .fits, h .inside, m))
+packet-falls d p h (setting t m) = gives _ _
 
 advance-falls : (d : List ℕ) (c : State) → Falls d c (advance d c)
-advance-falls d (State.Packet p) = go (ltb (length d - p) 4) refl (readable d p) refl
+advance-falls d (State.Packet p) = go (readable d p) refl
+  where
+    go : (t : Bool) → readable d p ≡ t → Falls d (State.Packet p) (advance d (State.Packet p))
+    go true e =
+        let h : _ = readable-packet d p e in
+        rw (at-packet d p (packet-read d p e)) (packet-falls d p h (holds d p h))
+    go false e = rw (at-packet d p (packet-unread d p e)) ends
+advance-falls d (State.Sources at stop next) = go (leb stop at) refl (sourceIs d stop at) refl
   where
     go :
-        (t : Bool) → ltb (length d - p) 4 ≡ t → (k : Bool) → readable d p ≡ k
-        → Falls d (State.Packet p) (advance d (State.Packet p))
-    go true t k e = rw (packet-torn d p (ltb-true (length d - p) 4 t)) ends
-    go false t true e =
-        rw (packet-entered d p (ltb-false (length d - p) 4 t) e) (entered-falls d p (ltb-false (length d - p) 4 t) e)
-    go false t false e = rw (packet-stops d p (ltb-false (length d - p) 4 t) e) ends
-advance-falls d (State.Sources at stop next) = go (leb stop at) refl (torn d at stop) refl
-  where
-    go : (t : Bool) → leb stop at ≡ t → (b : Bool) → torn d at stop ≡ b → Falls d (State.Sources at stop next) (advance d (State.Sources at stop next))
-    go true t b e = rw (sources-behind d at stop next (leb-true stop at t)) (falls (State.Packet next) (omega arith))
-    go false t true e = rw (sources-torn d at stop next (leb-false stop at t) e) ends
-    go false t false e = rw (sources-item d at stop next (leb-false stop at t) e) (gives _ _)
-advance-falls d (State.Blocks sender at stop next) = go (leb stop at) refl (torn d at stop) refl (blockCheck d stop at) refl (reports d at) refl
+        (t : Bool) → leb stop at ≡ t → (x : Source) → sourceIs d stop at ≡ x
+        → Falls d (State.Sources at stop next) (advance d (State.Sources at stop next))
+    go true t x e = rw (behind-sources d at stop next (leb-true stop at t)) (falls (State.Packet next) (omega arith))
+    go false t (Source.Number s) e = rw (at-source d at stop next (leb-false stop at t) e) (gives _ _)
+    go false t Source.Outside e = rw (at-source d at stop next (leb-false stop at t) e) ends
+advance-falls d (State.Blocks sender at stop next) = go (leb stop at) refl (blockIs d stop at) refl
   where
     go :
-        (t : Bool) → leb stop at ≡ t → (b : Bool) → torn d at stop ≡ b → (k : Check) → blockCheck d stop at ≡ k
-        → (r : Bool) → reports d at ≡ r
+        (t : Bool) → leb stop at ≡ t → (x : Block) → blockIs d stop at ≡ x
         → Falls d (State.Blocks sender at stop next) (advance d (State.Blocks sender at stop next))
-    go true t b e k f r g = rw (blocks-behind d sender at stop next (leb-true stop at t)) (falls (State.Packet next) (omega arith))
-    go false t true e k f r g = rw (blocks-torn d sender at stop next (leb-false stop at t) e) ends
-    go false t false e (refused number place) f r g =
-        rw (blocks-stop d sender at stop next (leb-false stop at t) e number place f) ends
-    go false t false e passed f true g = rw (blocks-item d sender at stop next (leb-false stop at t) e f g) (gives _ _)
-    go false t false e passed f false g =
-        rw (blocks-pass d sender at stop next (leb-false stop at t) e f g)
-        (falls (State.Blocks sender (at + blockSize d at) stop next) (omega (arith, block-inside d stop at f, leb-false stop at t)))
+    go true t x e =
+        rw (behind-blocks d sender at stop next (leb-true stop at t)) (falls (State.Packet next) (omega arith))
+    go false t Block.Report e = rw (at-block d sender at stop next (leb-false stop at t) e) (gives _ _)
+    go false t (Block.Skipped bytes) e =
+        let m : _ = met-skipped d stop at bytes e in
+        rw (at-block d sender at stop next (leb-false stop at t) e)
+        (falls (State.Blocks sender (at + bytes) stop next)
+        (omega (arith, m .0 .inside, m .0 .size, leb-false stop at t)))
+    go false t (Block.Refused number) e = rw (at-block d sender at stop next (leb-false stop at t) e) ends
 
 pub left-falls : (d : List ℕ) (c n : State) → advance d c ≡ Advance.Onward n → left d n < left d c
 left-falls d c n e = take e (advance-falls d c)
@@ -134,17 +132,13 @@ next-onward d c n e =
 -- ---- Good: a cursor that a datagram with no refusal has given
 
 abbrev pub Good : List ℕ → State → Type 0
-Good d (State.Packet p) = ((length d - p) % 4 ≡ 0) × (packetsCheck d p ≡ passed)
-Good d (State.Sources at stop next) = (stop ≤ length d) × ((stop - at) % 4 ≡ 0) × ((length d - next) % 4 ≡ 0) × (packetsCheck d next ≡ passed)
-Good d (State.Blocks sender at stop next) =
-    (stop ≤ length d) × ((stop - at) % 4 ≡ 0) × ((length d - next) % 4 ≡ 0) × (packetsCheck d next ≡ passed) × (blocksCheck d stop at ≡ passed)
+Good d (State.Packet p) = packetsCheck d p ≡ passed
+Good d (State.Sources at stop next) = (stop ≤ length d) × ((stop - at) % 4 ≡ 0) × (packetsCheck d next ≡ passed)
+Good d (State.Blocks sender at stop next) = (blocksCheck d stop at ≡ passed) × (packetsCheck d next ≡ passed)
 
 pub start-good : (d : List ℕ) → datagramCheck d ≡ passed → Good d (start .state)
 unfolding datagramCheck
-start-good d e =
-    let checked : _ = check-passes (lengthIsBad (length d)) _ _ _ e in
-    let words : _ = length-words (length d) (checked .0) in
-    (omega arith, checked .1)
+start-good d e = check-passes (lengthIsBad (length d)) _ _ _ e .1
 
 -- one step from a good cursor
 data Steps (d : List ℕ) (c : State) : Advance → Type 0 where
@@ -152,89 +146,71 @@ data Steps (d : List ℕ) (c : State) : Advance → Type 0 where
   gave : (x : Placed) (n : State) → remaining d c ≡ x ∷ remaining d n → Good d n → Steps d c (Advance.Item x n)
   went : (n : State) → remaining d c ≡ remaining d n → Good d n → Steps d c (Advance.Onward n)
 
-module _ (d : List ℕ) (p : ℕ) (h : p < length d) (w : (length d - p) % 4 ≡ 0) (e : packetsCheck d p ≡ passed) where
-  turn : PacketsTurn d p
-  turn = packets-turn d p h e
+-- at a packet that has passed
+packet-steps : (d : List ℕ) (p : ℕ) → PacketsTurn d p → Steps d (State.Packet p) (advance d (State.Packet p))
+packet-steps d p turn = rw (at-packet d p (packet-passed d p (turn .head))) (go refl (holds d p (turn .known)))
+  where
+    items-as : {x : Packet} → contents d p ≡ x → packetsItems d p ≡ partsItems d p x ++ packetsItems d (p + size d p)
+    items-as e = turn .items ∙ ap (λ (l : List Placed). l ++ packetsItems d (p + size d p)) (items-of d p e)
 
-  behind : Good d (past d p)
-  behind = (omega (arith, turn .known .fits), turn .later)
-
-  items-as : {l : List Placed} → packetItems d p ≡ l → packetsItems d p ≡ l ++ packetsItems d (p + size d p)
-  items-as i = turn .items ∙ ap (λ (l : List Placed). l ++ packetsItems d (p + size d p)) i
-
-  entered-steps : Steps d (State.Packet p) (entered d p)
-  entered-steps = go (apart (packetType d p))
-    where
-      go : Apart (packetType d p) → Steps d (State.Packet p) (entered d p)
-      go (bye t) =
-          rw (entered-bye d p t)
-          (went (State.Sources (p + 4) (p + (4 + 4 * count d p)) (p + size d p))
-          (items-as (items-bye d p t))
-          (omega (arith, turn .known .fits, turn .known .inside, least-bye _ _ _ (turn .known .enough) t), omega arith, behind .0, behind .1))
-      go (xr t) =
-          rw (entered-xr d p t)
-          (went (State.Blocks (be32 d (p + 4)) (p + 8) (p + content d p) (p + size d p))
-          (items-as (items-xr d p t)) (
-            omega (arith, turn .known .fits, turn .known .inside),
-            omega (arith, turn .known .words, least-xr _ _ _ (turn .known .enough) t),
-            behind .0,
-            behind .1,
-            sym (check-xr d p (turn .head) t) ∙ turn .check,
-          ))
-      go (settings t) = rw (entered-settings d p t) (gave _ (past d p) (items-as (items-settings d p t)) behind)
-      go (unread a b c) = rw (entered-unread d p a b c) (went (past d p) (items-as (items-unread d p a b c)) behind)
-
-  packet-steps : Steps d (State.Packet p) (advance d (State.Packet p))
-  packet-steps =
-      rw (packet-entered d p (omega arith) (readable-there d p (turn .known .fits) (turn .known .enough))) entered-steps
+    go : {x : Packet} → contents d p ≡ x → Holds d p x → Steps d (State.Packet p) (packetStep d p x)
+    go e unread = went (State.Packet (p + size d p)) (items-as e) (turn .later)
+    go e (sources least l h) =
+        went (State.Sources (p + 4) (p + least) (p + size d p)) (items-as e)
+        (omega (arith, turn .known .fits, turn .known .inside, h), omega (arith, l), turn .later)
+    go e (blocks h) =
+        went (State.Blocks (be32 d (p + 4)) (p + 8) (p + content d p) (p + size d p)) (items-as e)
+        (sym (check-of d p e (turn .head)) ∙ turn .check, turn .later)
+    go e (setting t h) = gave _ (State.Packet (p + size d p)) (items-as e) (turn .later)
 
 advance-steps : (d : List ℕ) (c : State) → Good d c → Steps d c (advance d c)
 advance-steps d (State.Packet p) good = go (ltb p (length d)) refl
   where
     go : (t : Bool) → ltb p (length d) ≡ t → Steps d (State.Packet p) (advance d (State.Packet p))
-    go true t = packet-steps d p (ltb-true p (length d) t) (good .0) (good .1)
+    go true t = packet-steps d p (packets-turn d p (ltb-true p (length d) t) good)
     go false t =
         let over : length d ≤ p = ltb-false p (length d) t in
-        rw (packet-torn d p (omega arith))
-        (ended (packets-end d p over))
+        rw (at-packet d p (packet-outside d p (omega arith))) (ended (packets-end d p over))
 advance-steps d (State.Sources at stop next) good = go (leb stop at) refl
   where
     go : (t : Bool) → leb stop at ≡ t → Steps d (State.Sources at stop next) (advance d (State.Sources at stop next))
     go true t =
         let over : stop ≤ at = leb-true stop at t in
-        rw (sources-behind d at stop next over)
-        (went (State.Packet next) (ap (λ (l : List Placed). l ++ packetsItems d next) (sources-end d stop at over)) (good .2, good .3))
+        rw (behind-sources d at stop next over)
+        (went (State.Packet next) (ap (λ (l : List Placed). l ++ packetsItems d next) (sources-end d stop at over)) (good .2))
     go false t =
         let here : at < stop = leb-false stop at t in
-        rw (sources-item d at stop next here (whole-word d at stop (good .0) (omega (arith, good .1))))
+        rw (at-source d at stop next here (source-inside d stop at (omega (arith, good .0)) (omega (arith, good .0, good .1))))
         (gave _ (State.Sources (at + 4) stop next)
         (ap (λ (l : List Placed). l ++ packetsItems d next) (sources-part d stop at here))
-        (good .0, omega (arith, good .1), good .2, good .3))
-advance-steps d (State.Blocks sender at stop next) good = go (leb stop at) refl (reports d at) refl
+        (good .0, omega (arith, good .1), good .2))
+advance-steps d (State.Blocks sender at stop next) good = go (leb stop at) refl (blockIs d stop at) refl
   where
-    go : (t : Bool) → leb stop at ≡ t → (r : Bool) → reports d at ≡ r → Steps d (State.Blocks sender at stop next) (advance d (State.Blocks sender at stop next))
-    go true t r g =
+    go :
+        (t : Bool) → leb stop at ≡ t → (x : Block) → blockIs d stop at ≡ x
+        → Steps d (State.Blocks sender at stop next) (advance d (State.Blocks sender at stop next))
+    go true t x e =
         let over : stop ≤ at = leb-true stop at t in
-        rw (blocks-behind d sender at stop next over)
+        rw (behind-blocks d sender at stop next over)
         (went (State.Packet next)
         (ap (λ (l : List Placed). l ++ packetsItems d next) (blocks-end d sender stop at over))
-        (good .2, good .3))
-    go false t true g =
+        (good .1))
+    go false t Block.Report e =
         let here : at < stop = leb-false stop at t in
-        let turn : _ = blocks-turn d sender stop at here (good .4) in
-        rw (blocks-item d sender at stop next here (whole-word d at stop (good .0) (omega (arith, good .1))) (turn .check) g)
-        (gave _ (State.Blocks sender (at + blockSize d at) stop next)
-        (ap (λ (l : List Placed). l ++ packetsItems d next)
-        (turn .items ∙ ap (λ (l : List Placed). l ++ blocksItems d sender stop (at + blockSize d at)) (items-one d sender at g)))
-        (good .0, omega (arith, good .1, turn .inside), good .2, good .3, turn .later))
-    go false t false g =
+        let turn : _ = report-turn d sender stop at here (good .0) e in
+        rw (at-block d sender at stop next here e)
+        (gave _ (State.Blocks sender (at + 32) stop next)
+        (ap (λ (l : List Placed). l ++ packetsItems d next) (turn .all))
+        (turn .later, good .1))
+    go false t (Block.Skipped bytes) e =
         let here : at < stop = leb-false stop at t in
-        let turn : _ = blocks-turn d sender stop at here (good .4) in
-        rw (blocks-pass d sender at stop next here (whole-word d at stop (good .0) (omega (arith, good .1))) (turn .check) g)
-        (went (State.Blocks sender (at + blockSize d at) stop next)
-        (ap (λ (l : List Placed). l ++ packetsItems d next)
-        (turn .items ∙ ap (λ (l : List Placed). l ++ blocksItems d sender stop (at + blockSize d at)) (items-none d sender at g)))
-        (good .0, omega (arith, good .1, turn .inside), good .2, good .3, turn .later))
+        let turn : _ = skipped-turn d sender stop at here (good .0) bytes e in
+        rw (at-block d sender at stop next here e)
+        (went (State.Blocks sender (at + bytes) stop next)
+        (ap (λ (l : List Placed). l ++ packetsItems d next) (turn .all))
+        (turn .later, good .1))
+    go false t (Block.Refused number) e =
+        absurd (not-refused d sender stop at (leb-false stop at t) (good .0) number e)
 
 -- ---- what a good cursor gives next
 

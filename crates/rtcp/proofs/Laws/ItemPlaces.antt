@@ -1,26 +1,30 @@
 -- The places that the items of a datagram are read from: every report is read from a block of type 12, role 1 and 8
 -- words, every settings item from a packet of type 211, both whole in the datagram.
-use Prim.Native.Nat.{ℕ, suc, zero, _+_, _-_, _*_, _≤_, _<_}
+use Prim.Native.Nat.{ℕ, suc, zero, _+_, _-_, _≤_, _<_}
 use mathlib.Core.Path.{_≡_, refl, sym, _∙_}
 use mathlib.Core.List.{List, [], _∷_, _++_}
-use mathlib.Core.Bool.{Bool, true, false, not}
+use mathlib.Core.Bool.{Bool, true, false}
 use lib.ListN.{length, getD}
-use lib.Dec.{ltb, eqb}
+use lib.Dec.{ltb}
 use native.Mathlib.Omega.{arith}
-use borrow.Author.Tests.{ltb-true, ltb-false, eqb-true, not-false}
+use borrow.Author.Tests.{ltb-true, ltb-false}
 use Rattle.idms.specs.declared.Item.{Item}
 use Rattle.idms.specs.declared.Placed.{Placed}
 use Rattle.idms.specs.declared.Found.{Found}
-use Rattle.rtcp.specs.Refusals.{Check, passed, refused}
-use Rattle.rtcp.specs.Bytes.{be32}
-use Rattle.rtcp.specs.Packet.{version, packetType, count, size, content, headCheck}
-use Rattle.rtcp.specs.Report.{blockLength, blockSize, reports, reportAt}
-use Rattle.rtcp.specs.Settings.{settingsItem}
-use Rattle.rtcp.specs.Datagram.{sourceItems, blocksCheck, blocksItems, packetItems, packetsCheck, packetsItems, datagramCheck, datagramItems, lengthIsBad}
+use Rattle.packet.specs.declared.contents.Packet.{Packet}
+use Rattle.packet.specs.Checks.{Check, passed, refused}
+use Rattle.packet.specs.Packet.{version, packetType, size, content}
+use Rattle.packet.specs.Bytes.{be32}
+use Rattle.packet.specs.Report.{blockLength, blockSize, reports, reportAt}
+use Rattle.packet.specs.Settings.{settingsItem}
+use Rattle.packet.specs.Contents.{contents}
+use Rattle.packet.proofs.Laws.Checks.{check-passes}
+use Rattle.packet.proofs.Laws.Packet.{head-version}
+use Rattle.packet.proofs.Laws.Contents.{Holds, unread, sources, blocks, holds}
+use Rattle.packet.proofs.Laws.Blocks.{items-one, items-none, report-words}
+use Rattle.datagram.specs.Datagram.{sourceItems, blocksCheck, blocksItems, packetItems, packetsCheck, packetsItems, datagramCheck, datagramItems, lengthIsBad}
+use Rattle.datagram.proofs.Laws.Datagram.{sources-part, sources-end, BlocksTurn, blocks-turn, blocks-end, PacketsTurn, packets-turn, packets-end, items-of, check-of}
 use Rattle.rtcp.specs.Answers.{itemOf, nothing}
-use Rattle.rtcp.proofs.Laws.Packet.{check-passes, exact-settings}
-use Rattle.rtcp.proofs.Laws.Blocks.{items-one, items-none, report-words}
-use Rattle.rtcp.proofs.Laws.Datagram.{sources-part, sources-end, BlocksTurn, blocks-turn, blocks-end, PacketsTurn, packets-turn, packets-end, items-bye, items-xr, items-settings, items-unread, check-xr, Apart, bye, xr, settings, unread, apart}
 use Rattle.rtcp.proofs.Laws.Answers.{item-refused, item-past, item-there}
 
 -- ---- what holds of every item of a list
@@ -80,30 +84,22 @@ blocks-read d sender (suc k) stop at h l e =
         let turn : BlocksTurn d sender stop at = blocks-turn d sender stop at (ltb-true at stop t) e in
         rw (turn .items, items-none d sender at g) (rest (turn .later))
 
-head-version : (d : List ℕ) (p : ℕ) → headCheck d p ≡ passed → version d p ≡ 2
-unfolding headCheck
-head-version d p h =
-    eqb-true (version d p) 2 (not-false (eqb (version d p) 2) (check-passes (not (eqb (version d p) 2)) _ _ _ h .0))
-
 packet-read : (d : List ℕ) (p : ℕ) → PacketsTurn d p → All (ReadFrom d) (packetItems d p)
-packet-read d p turn = go (apart (packetType d p))
+packet-read d p turn = go refl (holds d p (turn .known))
   where
-    go : Apart (packetType d p) → All (ReadFrom d) (packetItems d p)
-    go (bye t) =
-        rw (items-bye d p t)
-        (sources-read d (p + (4 + 4 * count d p)) (p + (4 + 4 * count d p)) (p + 4) (omega arith))
-    go (xr t) =
-        rw (items-xr d p t)
+    go : {x : Packet} → contents d p ≡ x → Holds d p x → All (ReadFrom d) (packetItems d p)
+    go e unread = rw (items-of d p e) none
+    go e (sources least l h) = rw (items-of d p e) (sources-read d (p + least) (p + least) (p + 4) (omega arith))
+    go e (blocks h) =
+        rw (items-of d p e)
         (blocks-read d (be32 d (p + 4)) (p + content d p - (p + 8)) (p + content d p) (p + 8) (omega arith)
         (omega (arith, turn .known .fits, turn .known .inside))
-        (sym (check-xr d p (turn .head) t) ∙ turn .check))
-    go (settings t) =
-        rw (items-settings d p t)
+        (sym (check-of d p e (turn .head)) ∙ turn .check))
+    go e (Holds.setting t h) =
+        rw (items-of d p e)
         (also
-        (setting p (head-version d p (turn .head)) t
-        (omega (arith, exact-settings _ _ _ (turn .known .enough) t, turn .known .inside, turn .known .fits)))
+        (ReadFrom.setting p (head-version d p (turn .head)) t (omega (arith, h, turn .known .inside, turn .known .fits)))
         none)
-    go (unread a b c) = rw (items-unread d p a b c) none
 
 packets-read :
     (d : List ℕ) (k p : ℕ) → length d - p ≤ k → packetsCheck d p ≡ passed → All (ReadFrom d) (packetsItems d p)

@@ -12,13 +12,19 @@ use Rattle.idms.specs.Rows.{cells, rowOf}
 use Rattle.idms.specs.declared.Item.{Item}
 use Rattle.idms.specs.declared.Placed.{Placed}
 use Rattle.idms.specs.declared.Refusal.{Refusal}
-use Rattle.rtcp.specs.declared.walk.Count.{Count}
-use Rattle.rtcp.specs.Datagram.{packetsItems, datagramItems}
-use Rattle.rtcp.specs.Answers.{refusal, countOf}
+use Rattle.refusals.specs.Refusals.{shortBuffer}
+use Rattle.packet.specs.declared.contents.Packet.{Packet}
+use Rattle.packet.specs.Packet.{size}
+use Rattle.packet.specs.Contents.{contents}
+use Rattle.packet.proofs.Laws.Packet.{Readable}
+use Rattle.packet.proofs.Laws.Contents.{Holds, unread, sources, blocks, setting, holds}
+use Rattle.datagram.specs.declared.Count.{Count}
+use Rattle.datagram.specs.Datagram.{packetsItems, datagramItems}
+use Rattle.datagram.specs.Answers.{refusal, itemCount}
+use Rattle.datagram.proofs.Laws.Datagram.{packets-end}
+use Rattle.datagram.proofs.Laws.Answers.{datagram-passed, datagram-refused}
+use Rattle.rtcp.specs.Rows.{put, HasRoom, ArePut, behind, rowsAnswer, rowsAfter}
 use Rattle.rtcp.proofs.Laws.Puts.{puts-front, length-puts, puts-append}
-use Rattle.rtcp.proofs.Laws.Datagram.{packets-end}
-use Rattle.rtcp.proofs.Laws.Answers.{count-passed, count-refused}
-use Rattle.rtcp.specs.Rows.{put, rowsAnswer, rowsAfter}
 
 -- ---- rowOf
 
@@ -48,7 +54,7 @@ filling-start rows at items = record { long = refl; cells = refl; all = refl }
 module _ {rows₀ : List ℕ} {at : ℕ} {items₀ : List Placed} {rows : List ℕ} {cell : ℕ} {items : List Placed} (f : Filling rows₀ at items₀ rows cell items) where
   -- some of them have been put
   pub filling-part :
-      (l rest : List Placed) (rows′ : List ℕ) (cell′ : ℕ) → items ≡ l ++ rest → at + 10 * length items₀ ≤ length rows₀
+      (l rest : List Placed) (rows′ : List ℕ) (cell′ : ℕ) → items ≡ l ++ rest → HasRoom rows₀ at items₀
       → rows′ ≡ put rows cell l → cell′ ≡ cell + 10 * length l → Filling rows₀ at items₀ rows′ cell′ rest
   filling-part l rest rows′ cell′ e h r k =
       let n : length items ≡ length l + length rest = ap length e ∙ length-append l rest in
@@ -63,18 +69,22 @@ module _ {rows₀ : List ℕ} {at : ℕ} {items₀ : List Placed} {rows : List �
             ∙ f .all;
       }
 
+  -- none of them has been put
+  pub filling-none : (rest : List Placed) → items ≡ rest → Filling rows₀ at items₀ rows cell rest
+  filling-none rest e = rw e at f
+
   -- one of them has been put
   pub filling-row :
-      (x : Placed) (rest : List Placed) (rows′ : List ℕ) → items ≡ x ∷ rest → at + 10 * length items₀ ≤ length rows₀
+      (x : Placed) (rest : List Placed) (rows′ : List ℕ) → items ≡ x ∷ rest → HasRoom rows₀ at items₀
       → rows′ ≡ paste rows cell (rowOf x) 10 → Filling rows₀ at items₀ rows′ (cell + 10) rest
   filling-row x rest rows′ e h r = filling-part (x ∷ []) rest rows′ (cell + 10) e h r (omega arith)
 
   -- there is room for the next
   pub filling-room :
-      (x : Placed) (rest : List Placed) → items ≡ x ∷ rest → at + 10 * length items₀ ≤ length rows₀ → cell + 10 ≤ length rows
+      (x : Placed) (rest : List Placed) → items ≡ x ∷ rest → HasRoom rows₀ at items₀ → cell + 10 ≤ length rows
   filling-room x rest e h = omega (arith, ap length e, f .long, f .cells)
 
-  pub filling-end : items ≡ [] → (cell ≡ at + 10 * length items₀) × (rows ≡ put rows₀ at items₀)
+  pub filling-end : items ≡ [] → ArePut rows₀ at items₀ cell rows
   filling-end e = (omega (arith, ap length e, f .cells), sym (ap (put rows cell) e) ∙ f .all)
 
 -- while rows are missing, packets are left
@@ -98,15 +108,15 @@ none-left d rows₀ rows cell p n f e h = nothing-left (packetsItems d p) (omega
 -- ---- the answer and the array, by what was checked
 
 module _ (d rows : List ℕ) where
-  pub rows-refused : (r : Refusal) → countOf d ≡ Count.Refused r → (Count.Refused r ≡ rowsAnswer d rows) × (rows ≡ rowsAfter d rows)
+  pub rows-refused : (r : Refusal) → itemCount d ≡ Count.Refused r → (Count.Refused r ≡ rowsAnswer d rows) × (rows ≡ rowsAfter d rows)
   unfolding rowsAnswer rowsAfter
-  rows-refused r e = rw (count-refused d r e) (refl, refl)
+  rows-refused r e = rw (datagram-refused d r e) (refl, refl)
 
-  module _ (n : ℕ) (e : countOf d ≡ Count.Items n) where
-    pub rows-short : length rows < 10 * n → (Count.Refused (refusal 10 0) ≡ rowsAnswer d rows) × (rows ≡ rowsAfter d rows)
+  module _ (n : ℕ) (e : itemCount d ≡ Count.Items n) where
+    pub rows-short : length rows < 10 * n → (Count.Refused (refusal shortBuffer 0) ≡ rowsAnswer d rows) × (rows ≡ rowsAfter d rows)
     unfolding rowsAnswer rowsAfter
     rows-short h =
-        let m : _ = count-passed d n e in
+        let m : _ = datagram-passed d n e in
         rw (m .0, lt-ltb (length rows) (10 * length (datagramItems d)) (omega (arith, m .1))) (refl, refl)
 
     pub rows-filled :
@@ -114,6 +124,17 @@ module _ (d rows : List ℕ) where
         → (Count.Items n ≡ rowsAnswer d rows) × (put rows 0 (datagramItems d) ≡ rowsAfter d rows)
     unfolding rowsAnswer rowsAfter
     rows-filled h =
-        let m : _ = count-passed d n e in
+        let m : _ = datagram-passed d n e in
         rw (m .0, le-ltb (length rows) (10 * length (datagramItems d)) (omega (arith, m .1)))
         (ap Count.Items (m .1), puts-front rowOf 10 length-rowOf (datagramItems d) rows (omega (arith, m .1)))
+
+-- ---- behind
+
+pub behind-contents : (d : List ℕ) (p : ℕ) → Readable d p → behind (contents d p) ≡ p + size d p
+behind-contents d p h = go (holds d p h)
+  where
+    go : {x : Packet} → Holds d p x → behind x ≡ p + size d p
+    go unread = refl
+    go (sources least l m) = refl
+    go (blocks m) = refl
+    go (setting t m) = refl

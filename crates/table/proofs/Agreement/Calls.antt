@@ -1,27 +1,32 @@
--- One call on a table and on the register whose rows agree with its members: the same answer, and they agree afterwards.
-use Prim.Native.Nat.{ℕ, _-_, _^_, _≤_, _<_}
+-- One call on a table and on the register whose rows agree with its members: the same answer, and they agree
+-- afterwards.
+use Prim.Native.Nat.{ℕ, _≤_, _<_}
 use mathlib.Core.Bool.{Bool, true, false, not, _&&_, _||_}
 use mathlib.Core.List.{_∷_, List·Permᴰ, List·Permᴰ·cons, List·Permᴰ·trans, Permᴰ·symm}
 use mathlib.Core.Path.{_≡_, refl, sym, ap, _∙_}
 use lib.Dec.{eqb}
 use lib.ListN.{length, getD, length-set}
 use native.Mathlib.Omega.{arith}
-use borrow.Author.Tests.{eqb-true, eqb-false, eq-eqb, ltb-true, ltb-false}
+use borrow.Author.Tests.{eqb-true, eq-eqb, ltb-true, ltb-false}
 use Rattle.origin.specs.declared.Origin.{Origin}
 use Rattle.origin.specs.Origins.{sameOrigin}
-use Rattle.places.specs.Places.{isHeld, heldIn, lowestFree}
-use Rattle.places.proofs.Laws.{lowest-free-within, lowest-free-is-free, full-held}
+use Rattle.places.specs.Places.{isHeld, heldIn, lowestFree, withoutPlace}
+use Rattle.places.proofs.Laws.Free.{lowest-free-is-free, full-held}
 use Rattle.register.specs.declared.Record.{Record}
-use Rattle.register.specs.Register.{Opening, Rows, Call, keep, some, hasNumber, isHeldElsewhere, hasNoRoom, renewed, farewellChecks, freshAt, answer, accepted, after}
+use Rattle.register.specs.Register.{Opening, Rows, Call, filter, any, hasNumber, isHeldElsewhere, hasNoRoom, renewed}
+use Rattle.register.specs.Register.{farewellChecks, freshAt, answer, accepted, after}
 use Rattle.register.specs.Promise.{Unique}
-use Rattle.register.proofs.Rows.{some-permuted, keep-permuted, length-permuted, some-keep, some-and-none}
+use Rattle.register.proofs.Rows.{any-permuted, filter-permuted, length-permuted, any-filter, any-and-none}
 use Rattle.register.proofs.Stands.{accepted-room}
 use Rattle.register.proofs.Unique.{unique-permuted, without-own, elsewhere-own}
 use Rattle.register.proofs.Permuted.{unique-after, renewed-form}
+use Rattle.choosing.specs.Marked.{nowhere, rowsAt}
+use Rattle.choosing.proofs.Laws.Marked.{rows-filterWord, ones-of-rows}
 use Rattle.table.specs.declared.Table.{Table}
-use Rattle.table.specs.Members.{openingOf, nowhere, rowsAt, membersOf, placeIn}
+use Rattle.table.specs.Members.{openingOf, membersOf, placeIn}
 use Rattle.table.specs.Calls.{isMember, isElsewhere, isWithoutRoom, numberOf, filed, acceptedBy, answered}
-use Rattle.table.proofs.Seats.{place-found, rows-own, rows-renew, rows-insert, rows-keepWord, ones-of-rows}
+use Rattle.table.proofs.Laws.Cases.{free-place}
+use Rattle.table.proofs.Laws.Members.{place-found, rows-own, rows-renew, rows-with}
 
 -- a table whose 64 places hold the rows, each number once
 pub record Holds (o : Opening) (t : Table) (rows : Rows) : Type 0 where
@@ -35,6 +40,7 @@ pub record Holds (o : Opening) (t : Table) (rows : Rows) : Type 0 where
 -- the member with a number, and the rows without it
 pub record Owned (t : Table) (source : ℕ) : Type 0 where
   pub held : isHeld (placeIn t source) (t .held) ≡ true
+  pub below : placeIn t source < 64
   pub within : placeIn t source < length (t .members)
   pub number : getD (t .members) (placeIn t source) nowhere .source ≡ source
 
@@ -45,6 +51,7 @@ owned t source long e =
     let found : _ = place-found source (t .held) (t .members) .1 within in
     record {
       held = found .0;
+      below = below;
       within = within;
       number = eqb-true (getD (t .members) (placeIn t source) nowhere .source) source (found .1);
     }
@@ -53,35 +60,35 @@ abbrev own : Table → ℕ → Record
 own t source = getD (t .members) (placeIn t source) nowhere
 
 abbrev rest : Table → ℕ → Rows
-rest t source = rowsAt (t .held - 2 ^ placeIn t source) (t .members)
+rest t source = rowsAt (withoutPlace (t .held) (placeIn t source)) (t .members)
 
 rows-of-owner :
     (o : Opening) (t : Table) (rows : Rows) → Holds o t rows → (source : ℕ) → Owned t source →
     List·Permᴰ rows (own t source ∷ rest t source)
 rows-of-owner o t rows h source w =
     List·Permᴰ·trans (Permᴰ·symm (h .same))
-    (rows-own (t .held) (placeIn t source) (t .members) (w .held) (w .within))
+    (rows-own (t .held) (placeIn t source) (t .members) (w .held) (w .within) (w .below))
 
 none-of-number :
     (o : Opening) (t : Table) (rows : Rows) → Holds o t rows → (source : ℕ) → isMember t source ≡ false →
-    some (hasNumber source) rows ≡ false
+    any (hasNumber source) rows ≡ false
 none-of-number o t rows h source e =
     let behind : 64 ≤ placeIn t source = ltb-false (placeIn t source) 64 e in
-    sym (some-permuted (hasNumber source) (h .same))
+    sym (any-permuted (hasNumber source) (h .same))
     ∙ place-found source (t .held) (t .members) .2 (omega (arith, behind, h .long))
 
-member-some :
+member-any :
     (o : Opening) (t : Table) (rows : Rows) → Holds o t rows → (source : ℕ) →
-    isMember t source ≡ some (hasNumber source) rows
-unfolding some
-member-some o t rows h source = go (isMember t source) refl
+    isMember t source ≡ any (hasNumber source) rows
+unfolding any
+member-any o t rows h source = go (isMember t source) refl
   where
-    go : (b : Bool) → isMember t source ≡ b → isMember t source ≡ some (hasNumber source) rows
+    go : (b : Bool) → isMember t source ≡ b → isMember t source ≡ any (hasNumber source) rows
     go true e =
         let w : _ = owned t source (h .long) e in
         let here : hasNumber source (own t source) ≡ true = eq-eqb (own t source .source) source (w .number) in
-        e ∙ sym (some-permuted (hasNumber source) (rows-of-owner o t rows h source w)
-        ∙ ap (λ (b : Bool). b || some (hasNumber source) (rest t source)) here)
+        e ∙ sym (any-permuted (hasNumber source) (rows-of-owner o t rows h source w)
+        ∙ ap (λ (b : Bool). b || any (hasNumber source) (rest t source)) here)
     go false e = e ∙ sym (none-of-number o t rows h source e)
 
 -- the number's row has another origin exactly where its member has
@@ -96,7 +103,7 @@ elsewhere-same o t rows h source origin = go (isMember t source) refl
         let apart : _ = rows-of-owner o t rows h source w in
         let alone : Unique (own t source ∷ rest t source) = unique-permuted apart (h .unique) in
         let there : isHeldElsewhere rows source origin ≡ isHeldElsewhere (own t source ∷ rest t source) source origin =
-        some-permuted (λ row. hasNumber source row && not (sameOrigin (row .origin) origin)) apart in
+        any-permuted (λ row. hasNumber source row && not (sameOrigin (row .origin) origin)) apart in
         let number : isHeldElsewhere (own t source ∷ rest t source) (own t source .source) origin
         ≡ isHeldElsewhere (own t source ∷ rest t source) source origin =
         ap (λ (n : ℕ). isHeldElsewhere (own t source ∷ rest t source) n origin) (w .number) in
@@ -107,7 +114,7 @@ elsewhere-same o t rows h source origin = go (isMember t source) refl
     go false e =
         ap (λ (b : Bool). b && not (sameOrigin (own t source .origin) origin)) e
         ∙ sym
-        (some-and-none (hasNumber source) (λ row. not (sameOrigin (row .origin) origin)) rows
+        (any-and-none (hasNumber source) (λ row. not (sameOrigin (row .origin) origin)) rows
         (none-of-number o t rows h source e))
 
 -- as many rows as places held
@@ -121,8 +128,8 @@ room-same :
     (o : Opening) (t : Table) (rows : Rows) → Holds o t rows → (source : ℕ) →
     isWithoutRoom t source ≡ hasNoRoom rows source
 room-same o t rows h source =
-    ap (λ (b : Bool). not b && eqb (lowestFree 64 (t .held)) 64) (member-some o t rows h source)
-    ∙ ap (λ (b : Bool). not (some (hasNumber source) rows) && b)
+    ap (λ (b : Bool). not b && eqb (lowestFree 64 (t .held)) 64) (member-any o t rows h source)
+    ∙ ap (λ (b : Bool). not (any (hasNumber source) rows) && b)
     (full-held 64 (t .held) ∙ ap (λ (k : ℕ). eqb k 64) (rows-count o t rows h))
 
 -- ---- every answer is the register's
@@ -133,7 +140,7 @@ unfolding numberOf answer
 number-same o t rows h (Call.report x at) =
     rw (h .opening, elsewhere-same o t rows h (x .source) (x .origin), room-same o t rows h (x .source)) refl
 number-same o t rows h (Call.farewell source origin) =
-    rw (elsewhere-same o t rows h source origin, member-some o t rows h source) refl
+    rw (elsewhere-same o t rows h source origin, member-any o t rows h source) refl
 number-same o t rows h (Call.sweep at) = refl
 
 -- ---- and they agree afterwards
@@ -141,22 +148,14 @@ number-same o t rows h (Call.sweep at) = refl
 -- a number's row taken out of the rows: the table without that place
 without-number :
     (o : Opening) (t : Table) (rows : Rows) → Holds o t rows → (source : ℕ) → Owned t source →
-    List·Permᴰ (rest t source) (keep (λ row. not (hasNumber source row)) rows)
+    List·Permᴰ (rest t source) (filter (λ row. not (hasNumber source row)) rows)
 without-number o t rows h source w =
     let apart : _ = rows-of-owner o t rows h source w in
     let alone : Unique (own t source ∷ rest t source) = unique-permuted apart (h .unique) in
-    let kept : keep (λ row. not (hasNumber source row)) (own t source ∷ rest t source) ≡ rest t source =
-    ap (λ (n : ℕ). keep (λ row. not (hasNumber n row)) (own t source ∷ rest t source)) (sym (w .number))
+    let kept : filter (λ row. not (hasNumber source row)) (own t source ∷ rest t source) ≡ rest t source =
+    ap (λ (n : ℕ). filter (λ row. not (hasNumber n row)) (own t source ∷ rest t source)) (sym (w .number))
     ∙ without-own (own t source) (rest t source) alone in
-    Permᴰ·symm (rw kept at (keep-permuted (λ row. not (hasNumber source row)) apart))
-
--- the lowest free place, where there is room
-free-place :
-    (t : Table) (source : ℕ) → isMember t source ≡ false → isWithoutRoom t source ≡ false → lowestFree 64 (t .held) < 64
-free-place t source e room =
-    let notAll : eqb (lowestFree 64 (t .held)) 64 ≡ false = sym (ap (λ (b : Bool). not b && eqb (lowestFree 64 (t .held)) 64) e) ∙ room in
-    let within : lowestFree 64 (t .held) ≤ 64 = lowest-free-within 64 (t .held) in
-    omega (arith, within, eqb-false (lowestFree 64 (t .held)) 64 notAll)
+    Permᴰ·symm (rw kept at (filter-permuted (λ row. not (hasNumber source row)) apart))
 
 filed-rows :
     (o : Opening) (t : Table) (rows : Rows) → Holds o t rows → (x : Record) → isWithoutRoom t (x .source) ≡ false →
@@ -169,18 +168,18 @@ filed-rows o t rows h x room = go (isMember t (x .source)) refl
         let w : _ = owned t (x .source) (h .long) e in
         rw e
         (List·Permᴰ·trans
-        (rows-renew (t .held) (placeIn t (x .source)) (t .members) x (w .held) (w .within))
+        (rows-renew (t .held) (placeIn t (x .source)) (t .members) x (w .held) (w .within) (w .below))
         (List·Permᴰ·trans
         (List·Permᴰ·cons refl (without-number o t rows h (x .source) w))
         (Permᴰ·symm (renewed-form rows (h .unique) x))))
     go false e =
         let below : _ = free-place t (x .source) e room in
         let free : _ = lowest-free-is-free 64 (t .held) below in
-        let kept : keep (λ row. not (hasNumber (x .source) row)) rows ≡ rows =
-        some-keep (hasNumber (x .source)) rows (none-of-number o t rows h (x .source) e) in
+        let kept : filter (λ row. not (hasNumber (x .source) row)) rows ≡ rows =
+        any-filter (hasNumber (x .source)) rows (none-of-number o t rows h (x .source) e) in
         rw e
         (List·Permᴰ·trans
-        (rows-insert (t .held) (lowestFree 64 (t .held)) (t .members) x free (omega (arith, below, h .long)))
+        (rows-with (t .held) (lowestFree 64 (t .held)) (t .members) x free (omega (arith, below, h .long)) below)
         (List·Permᴰ·trans
         (List·Permᴰ·cons refl (h .same))
         (Permᴰ·symm (rw kept at (renewed-form rows (h .unique) x)))))
@@ -222,17 +221,18 @@ accepted-holds o t rows h (Call.report x at) e unique =
       unique = unique;
     }
 accepted-holds o t rows h (Call.farewell source origin) e unique =
-    let w : Owned t source = owned t source (h .long) (farewell-held (isMember t source) (isElsewhere t source origin) e) in
+    let member : isMember t source ≡ true = farewell-held (isMember t source) (isElsewhere t source origin) e in
+    let w : Owned t source = owned t source (h .long) member in
     record { opening = h .opening; long = h .long; same = without-number o t rows h source w; unique = unique }
 accepted-holds o t rows h (Call.sweep at) e unique =
-    let kept : membersOf (acceptedBy t (Call.sweep at)) ≡ keep (freshAt (openingOf t) at) (membersOf t) =
-    rows-keepWord (freshAt (openingOf t) at) (t .held) (t .members) in
-    let opens : keep (freshAt (openingOf t) at) (membersOf t) ≡ keep (freshAt o at) (membersOf t) =
-    ap (λ (p : Opening). keep (freshAt p at) (membersOf t)) (h .opening) in
+    let kept : membersOf (acceptedBy t (Call.sweep at)) ≡ filter (freshAt (openingOf t) at) (membersOf t) =
+    rows-filterWord (freshAt (openingOf t) at) (t .held) (t .members) in
+    let opens : filter (freshAt (openingOf t) at) (membersOf t) ≡ filter (freshAt o at) (membersOf t) =
+    ap (λ (p : Opening). filter (freshAt p at) (membersOf t)) (h .opening) in
     record {
       opening = h .opening;
       long = h .long;
-      same = rw (kept, opens) (keep-permuted (freshAt o at) (h .same));
+      same = rw (kept, opens) (filter-permuted (freshAt o at) (h .same));
       unique = unique;
     }
 

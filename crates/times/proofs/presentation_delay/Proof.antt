@@ -15,18 +15,13 @@ mul-result c = search needs
 
 sub-result : tie.Need-sub-result
 sub-result c =
-    let step-between = c .step-between in
-    let received = c .before .args .received in
-    let presented = c .before .args .presented in
-    omega (arith, step-between .ensures .0, step-bounds received presented)
+    let args = c .before .args in
+    omega (arith, c .step-between .ensures .0, step-bounds (args .received) (args .presented))
 
 returns : tie.Need-returns
 returns c =
-    let step-between = c .step-between in
-    let received = c .before .args .received in
-    let presented = c .before .args .presented in
-    let e : _ = step-between .ensures .0 in
-    ap (λ (s : ℕ). s * 65536 - received % 65536) e ∙ sym (delay-of-step received presented)
+    let args = c .before .args in
+    rw (sym (c .step-between .ensures .0)) at (sym (delay-of-step (args .received) (args .presented)))
 
 pub presentation-delay-spec : {M : Type 1} → statement M
 presentation-delay-spec = tie.close (tie.spec step-between-requires mul-result sub-result returns)

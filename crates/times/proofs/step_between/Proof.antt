@@ -13,22 +13,16 @@ rtp-age-requires c κs = search needs
 
 returns : tie.Need-returns
 returns c =
-    let received = c .before .before .args .received in
-    let presented = c .before .before .args .presented in
-    let rtp-age = c .before .rtp-age in
-    let if1 = c .if1 in
-    (step-zero received presented (rtp-age .result) (rtp-age .ensures) (if1 .taken), omega arith)
+    let b = c .before in
+    (step-zero _ _ _ (b .rtp-age .ensures) (c .if1 .taken), omega arith)
 
 cast-result : tie.Need-cast-result
 cast-result c = search needs
 
 returns-2 : tie.Need-returns-2
 returns-2 c =
-    let received = c .before .before .args .received in
-    let presented = c .before .before .args .presented in
-    let rtp-age = c .before .rtp-age in
-    let if1 = c .if1 in
-    (step-other received presented (rtp-age .result) (rtp-age .ensures) (if1 .left), search needs)
+    let b = c .before in
+    (step-other _ _ _ (b .rtp-age .ensures) (c .if1 .left), search needs)
 
 pub step-between-spec : {M : Type 1} → statement M
 step-between-spec =

@@ -3,6 +3,7 @@ use Prim.Native.Nat.{ℕ, _+_, _*_, _≤_, _<_}
 use mathlib.Core.Path.{_≡_, refl}
 use mathlib.Core.List.{List, [], _∷_}
 use mathlib.Core.Bool.{Bool, true, false, not, _&&_, _||_}
+use mathlib.Mathlib.Data.Bool.Basic.{or-eq-false-eq-eq-false-and-eq-false}
 use lib.ListN.{length, set}
 use lib.Seq.{paste, sets-eq}
 use native.Mathlib.Numerals.{add-one, add-two, add-three}
@@ -11,11 +12,11 @@ use lib.Dec.{ltb, eqb}
 use borrow.Author.Tests.{lt-ltb, le-ltb, ltb-false, eqb-true, not-false}
 use mir.Val.{boolByte}
 use Rattle.idms.specs.declared.Report.{Report}
+use Rattle.refusals.specs.Refusals.{shortBuffer, outOfRange}
 use Rattle.rtcp.specs.Puts.{puts}
-use Rattle.rtcp.proofs.Laws.Packet.{or-false}
 use Rattle.rtcp.proofs.Laws.Puts.{puts-front}
 use Rattle.writer.specs.declared.Written.{Written}
-use Rattle.writer.specs.Messages.{bytes32, reportIsUnwritable, written, buffer}
+use Rattle.writer.specs.Messages.{bytes32, reportIsUnwritable, WroteMessage}
 
 -- ---- bytes32
 
@@ -28,27 +29,24 @@ pub four-stores :
     → set (set (set (set l at a) (at + 1) b) (at + 2) c) (at + 3) d ≡ paste l at (a ∷ b ∷ c ∷ d ∷ []) 4
 four-stores l at a b c d h = rw (add-one at, add-two at, add-three at) (sets-eq (a ∷ b ∷ c ∷ d ∷ []) l at h)
 
-pub bit-bound : (t : Bool) → boolByte t ≤ 1
-bit-bound true = omega arith
-bit-bound false = omega arith
+pub flag-bound : (t : Bool) → boolByte t ≤ 1
+flag-bound true = omega arith
+flag-bound false = omega arith
 
 -- ---- written and buffer
 
 module _ (unwritable : Bool) (words buf : List ℕ) where
-  pub message-refused :
-      unwritable ≡ true → (Written.Refused 11 ≡ written unwritable words buf) × (buf ≡ buffer unwritable words buf)
+  pub message-refused : unwritable ≡ true → WroteMessage unwritable words buf (Written.Refused outOfRange) buf
   message-refused e = rw e (refl, refl)
 
   module _ (e : unwritable ≡ false) where
     pub message-short :
-        length buf < 4 * length words
-        → (Written.Refused 10 ≡ written unwritable words buf) × (buf ≡ buffer unwritable words buf)
+        length buf < 4 * length words → WroteMessage unwritable words buf (Written.Refused shortBuffer) buf
     message-short h = rw (e, lt-ltb (length buf) (4 * length words) h) (refl, refl)
 
     pub message-written :
         4 * length words ≤ length buf
-        → (Written.Bytes (4 * length words) ≡ written unwritable words buf)
-        × (puts bytes32 4 buf 0 words ≡ buffer unwritable words buf)
+        → WroteMessage unwritable words buf (Written.Bytes (4 * length words)) (puts bytes32 4 buf 0 words)
     message-written h =
         rw (e, le-ltb (length buf) (4 * length words) h) (refl, puts-front bytes32 4 length-bytes32 words buf h)
 
@@ -62,9 +60,11 @@ pub record Writable (r : Report) : Type 0 where
 pub writable : (r : Report) → reportIsUnwritable r ≡ false → Writable r
 unfolding reportIsUnwritable
 writable r h =
-    let rest : _ =
-    or-false (ltb 127 (r .«payload_type») || eqb (r .group) 4294967295) (not (r .p) && not (eqb (r .presented) 0)) h in
-    let both : _ = or-false (ltb 127 (r .«payload_type»)) (eqb (r .group) 4294967295) (rest .0) in
+    let payload = ltb 127 (r .«payload_type») in
+    let group = eqb (r .group) 4294967295 in
+    let presented = not (r .p) && not (eqb (r .presented) 0) in
+    let rest : _ = or-eq-false-eq-eq-false-and-eq-false (payload || group) presented .0 h in
+    let both : _ = or-eq-false-eq-eq-false-and-eq-false payload group .0 (rest .0) in
     record {
       payload = omega (arith, ltb-false 127 (r .«payload_type») (both .0));
       group = both .1;

@@ -15,18 +15,14 @@ returns-2 c = rw (le-ltb _ _ (c .before .before .if1 .left), eq-eqb _ _ (c .if2 
 returns-3 : tie.Need-returns-3
 unfolding reportIsUnwritable
 returns-3 c =
-    let if1 = c .before .before .before .if1 in
-    let if2 = c .before .if2 in
-    let if3 = c .if3 in
-    rw (le-ltb _ _ (if1 .left), ne-eqb _ _ (if2 .left), if3 .taken)
+    let b = c .before in
+    rw (le-ltb _ _ (b .before .before .if1 .left), ne-eqb _ _ (b .if2 .left), c .if3 .taken)
 
 returns-4 : tie.Need-returns-4
 unfolding reportIsUnwritable
 returns-4 c =
-    let if1 = c .before .before .before .before .if1 in
-    let if2 = c .before .before .if2 in
-    let if3 = c .before .if3 in
-    rw (le-ltb _ _ (if1 .left), ne-eqb _ _ (if2 .left), if3 .left)
+    let b = c .before in
+    rw (le-ltb _ _ (b .before .before .before .if1 .left), ne-eqb _ _ (b .before .if2 .left), b .if3 .left)
 
 pub is-unwritable-spec : {M : Type 1} → statement M
 is-unwritable-spec = tie.close (tie.spec returns returns-2 returns-3 returns-4)

@@ -1,10 +1,17 @@
--- Four stores put the four bytes of a word.
+-- Four stores put the four bytes of a word: those of the word reversed, from the last to the first.
+use Prim.Native.Nat.{ℕ}
+use mathlib.Core.List.{List, reverse}
+use mathlib.Core.Path.{ap, _∙_}
 use lib.ListN.{length-set}
+use lib.Seq.{paste}
 use native.Mathlib.Omega.{arith}
 use borrow.Author.Needs.{needs}
 use Rattle.writer.proofs.Laws.Messages.{four-stores}
 use Rattle.writer.proofs.put_word.Statement.{statement}
 use Rattle.writer.proofs.put_word.Tie as tie
+
+reversed-requires : tie.Need-reversed-requires
+reversed-requires c κs = search needs
 
 cast-buf : tie.Need-cast-buf
 cast-buf c = search needs
@@ -43,12 +50,18 @@ same-length : tie.Need-same-length
 same-length c = search needs
 
 returns : tie.Need-returns
-returns c = four-stores (c .args .buf .now) (c .args .at) _ _ _ _ (c .pre)
+returns c =
+    let start = c .before .before in
+    let buf = start .args .buf .now in
+    let at = start .args .at in
+    four-stores buf at _ _ _ _ (start .pre)
+    ∙ ap (λ (bytes : List ℕ). paste buf at (reverse bytes) 4) (c .reversed .ensures)
 
 pub put-word-spec : {M : Type 1} → statement M
 put-word-spec =
     tie.close
     (tie.spec
+    reversed-requires
     cast-buf
     slice-write-buf
     cast-buf-2

@@ -28,24 +28,22 @@ loop-holds c = (omega arith, omega arith, refl, refl)
 
 mul-put-word : tie.Need-mul-put-word Inv-loop μ-loop
 mul-put-word c =
-    let good = c .before .before .before .before .before .good in
-    omega (arith, good)
+    let start = c .before .before .before .before .before in
+    omega (arith, start .good)
 
 shared-slice-read-put-word : tie.Need-shared-slice-read-put-word Inv-loop μ-loop
 shared-slice-read-put-word c = omega arith
 
 put-word-requires : tie.Need-put-word-requires Inv-loop μ-loop
 put-word-requires c κs =
-    let inv = c .before .before .before .loop .inv in
-    let pre = c .before .before .before .before .before .before .pre in
-    omega (arith, inv .1, inv .2, pre)
+    let b = c .before .before .before in
+    omega (arith, b .loop .inv .1, b .loop .inv .2, b .before .before .before .pre)
 
 add-at : tie.Need-add-at Inv-loop μ-loop
 add-at c =
-    let inv = c .before .before .before .before .before .before .loop .inv in
-    let pre = c .before .before .before .before .before .before .before .before .before .pre in
-    let good = c .before .before .before .before .before .before .before .before .before .good in
-    omega (arith, inv .1, inv .2, pre, good)
+    let b = c .before .before .before .before .before .before in
+    let start = b .before .before .before in
+    omega (arith, b .loop .inv .1, b .loop .inv .2, start .pre, start .good)
 
 add-i : tie.Need-add-i Inv-loop μ-loop
 add-i c = omega arith
@@ -55,22 +53,23 @@ loop-less c = omega arith
 
 loop-again : tie.Need-loop-again Inv-loop μ-loop
 loop-again c =
-    let words = c .before .before .before .before .before .before .before .before .before .args .words .now in
-    let i = c .before .before .before .before .before .before .loop .i in
-    let at = c .before .before .before .before .before .before .loop .at in
-    let buf = c .before .before .before .before .before .before .loop .buf in
-    let inv = c .before .before .before .before .before .before .loop .inv in
-    let pre = c .before .before .before .before .before .before .before .before .before .pre in
-    let put-word = c .before .before .put-word in
-    let loop-test = c .before .before .before .before .before .loop-test in
+    let put = c .before .before .put-word in
+    let tested = c .before .before .before .before .before in
+    let b = tested .before in
+    let start = b .before .before .before in
+    let words = start .args .words .now in
+    let i = b .loop .i in
+    let at = b .loop .at in
+    let buf = b .loop .buf in
+    let inv = b .loop .inv in
     let w : ℕ = getD words i 0 in
-    let room : at + 4 ≤ length buf = omega (arith, inv .1, inv .2, pre) in (
+    let room : at + 4 ≤ length buf = omega (arith, inv .1, inv .2, start .pre) in (
       omega arith,
       omega (arith, inv .1),
-      ap length (put-word .ensures) ∙ length-put-one bytes32 4 length-bytes32 buf at w room ∙ inv .2,
-      ap (λ (b : List ℕ). puts bytes32 4 b (at + 4) (drop (i + 1) words)) (put-word .ensures)
+      ap length (put .ensures) ∙ length-put-one bytes32 4 length-bytes32 buf at w room ∙ inv .2,
+      ap (λ (b : List ℕ). puts bytes32 4 b (at + 4) (drop (i + 1) words)) (put .ensures)
           ∙ ap (λ (k : ℕ). puts bytes32 4 buf at (w ∷ drop k words)) (add-one i)
-          ∙ ap (puts bytes32 4 buf at) (sym (drop-cons words i 0 (loop-test .taken)))
+          ∙ ap (puts bytes32 4 buf at) (sym (drop-cons words i 0 (tested .loop-test .taken)))
           ∙ inv .3,
     )
 
@@ -79,12 +78,10 @@ same-length c = c .before .loop .inv .2
 
 returns : tie.Need-returns Inv-loop μ-loop
 returns c =
-    let buf = c .before .loop .buf in
-    let at = c .before .loop .at in
-    let words = c .before .before .before .before .args .words .now in
-    let loop-test = c .loop-test in
-    let inv = c .before .loop .inv in
-    sym (ap (puts bytes32 4 buf at) (drop-of-length-le words (loop-test .left))) ∙ inv .3
+    let b = c .before in
+    let words = b .before .before .before .args .words .now in
+    sym (ap (puts bytes32 4 (b .loop .buf) (b .loop .at)) (drop-of-length-le words (c .loop-test .left)))
+    ∙ b .loop .inv .3
 
 pub put-words-spec : {M : Type 1} → statement M
 put-words-spec =

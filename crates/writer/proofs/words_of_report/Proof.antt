@@ -1,7 +1,7 @@
--- The words, one by one; P adds one bit.
+-- The words, one by one; P is 0 or 1.
 use native.Mathlib.Omega.{arith}
 use borrow.Author.Needs.{needs}
-use Rattle.writer.proofs.Laws.Messages.{bit-bound}
+use Rattle.writer.proofs.Laws.Messages.{flag-bound}
 use Rattle.writer.proofs.words_of_report.Statement.{statement}
 use Rattle.writer.proofs.words_of_report.Tie as tie
 
@@ -9,10 +9,10 @@ cast-t2 : tie.Need-cast-t2
 cast-t2 c = search needs
 
 mul-t3 : tie.Need-mul-t3
-mul-t3 c = omega (arith, bit-bound (c .before .args .r .p))
+mul-t3 c = omega (arith, flag-bound (c .before .args .r .p))
 
 add-t4 : tie.Need-add-t4
-add-t4 c = omega (arith, bit-bound (c .before .args .r .p))
+add-t4 c = omega (arith, flag-bound (c .before .args .r .p))
 
 cast-t5 : tie.Need-cast-t5
 cast-t5 c = search needs

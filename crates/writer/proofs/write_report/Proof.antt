@@ -15,54 +15,44 @@ is-unwritable-requires c κs = search needs
 
 returns : tie.Need-returns
 returns c =
-    let r = c .before .before .before .args .r in
-    let buf = c .before .before .before .args .buf .now in
-    let is-unwritable = c .before .is-unwritable in
-    let if1 = c .if1 in
-    message-refused (reportIsUnwritable r) (reportWords r) buf (sym (is-unwritable .ensures) ∙ if1 .taken)
+    let b = c .before in
+    let args = b .before .before .args in
+    message-refused _ (reportWords (args .r)) (args .buf .now) (sym (b .is-unwritable .ensures) ∙ c .if1 .taken)
 
 returns-2 : tie.Need-returns-2
 returns-2 c =
-    let r = c .before .before .before .before .args .r in
-    let buf = c .before .before .before .before .args .buf .now in
-    let is-unwritable = c .before .before .is-unwritable in
-    let if1 = c .before .if1 in
-    let if2 = c .if2 in
-    message-short (reportIsUnwritable r) (reportWords r) buf (sym (is-unwritable .ensures) ∙ if1 .left)
-    (ltb-true _ 40 (if2 .taken))
+    let b = c .before in
+    let args = b .before .before .before .args in
+    message-short _ (reportWords (args .r)) (args .buf .now) (sym (b .before .is-unwritable .ensures) ∙ b .if1 .left)
+    (ltb-true _ 40 (c .if2 .taken))
 
 words-of-report-requires : tie.Need-words-of-report-requires
 words-of-report-requires c κs =
-    let r = c .before .before .before .before .args .r in
-    let is-unwritable = c .before .before .is-unwritable in
-    let if1 = c .before .if1 in
-    writable r (sym (is-unwritable .ensures) ∙ if1 .left) .payload
+    let b = c .before in
+    writable _ (sym (b .before .is-unwritable .ensures) ∙ b .if1 .left) .payload
 
 slice-aggregate-put-words : tie.Need-slice-aggregate-put-words
 slice-aggregate-put-words c = search needs
 
 put-words-requires : tie.Need-put-words-requires
 put-words-requires c κs =
-    let buf = c .before .before .before .before .before .before .before .args .buf .now in
-    let if2 = c .before .before .before .if2 in
-    omega (arith, ltb-false (length buf) 40 (if2 .left))
+    let b = c .before .before .before in
+    let buf = b .before .before .before .before .args .buf .now in
+    omega (arith, ltb-false (length buf) 40 (b .if2 .left))
 
 same-length : tie.Need-same-length
 same-length c = search needs
 
 returns-3 : tie.Need-returns-3
 returns-3 c =
-    let r = c .before .before .before .before .before .before .before .before .before .before .args .r in
-    let buf = c .before .before .before .before .before .before .before .before .before .before .args .buf .now in
-    let is-unwritable = c .before .before .before .before .before .before .before .before .is-unwritable in
-    let if1 = c .before .before .before .before .before .before .before .if1 in
-    let if2 = c .before .before .before .before .before .before .if2 in
-    let put-words = c .before .before .put-words in
-    let words-of-report = c .before .before .before .before .before .words-of-report in
+    let put = c .before .before in
+    let made = put .before .before .before in
+    let b = made .before .before in
+    let args = b .before .before .before .args in
     let m : _ =
-    message-written (reportIsUnwritable r) (reportWords r) buf (sym (is-unwritable .ensures) ∙ if1 .left)
-    (ltb-false (length buf) 40 (if2 .left)) in
-    (m .0, put-words .ensures ∙ ap (puts bytes32 4 buf 0) (words-of-report .ensures) ∙ m .1)
+    message-written _ (reportWords (args .r)) (args .buf .now) (sym (b .before .is-unwritable .ensures) ∙ b .if1 .left)
+    (ltb-false _ 40 (made .before .if2 .left)) in
+    (m .0, put .put-words .ensures ∙ ap (puts bytes32 4 (args .buf .now) 0) (made .words-of-report .ensures) ∙ m .1)
 
 pub write-report-spec : {M : Type 1} → statement M
 write-report-spec =

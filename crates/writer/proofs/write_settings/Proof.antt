@@ -10,18 +10,14 @@ use Rattle.writer.proofs.write_settings.Tie as tie
 
 returns : tie.Need-returns
 returns c =
-    let s = c .before .before .before .args .s in
-    let buf = c .before .before .before .args .buf .now in
-    let if1 = c .if1 in
-    message-refused (settingsAreUnwritable s) (settingsWords s) buf (eq-eqb _ _ (if1 .taken))
+    let args = c .before .before .before .args in
+    message-refused _ (settingsWords (args .s)) (args .buf .now) (eq-eqb _ _ (c .if1 .taken))
 
 returns-2 : tie.Need-returns-2
 returns-2 c =
-    let s = c .before .before .before .before .args .s in
-    let buf = c .before .before .before .before .args .buf .now in
-    let if1 = c .before .if1 in
-    let if2 = c .if2 in
-    message-short (settingsAreUnwritable s) (settingsWords s) buf (ne-eqb _ _ (if1 .left)) (if2 .taken)
+    let b = c .before in
+    let args = b .before .before .before .args in
+    message-short _ (settingsWords (args .s)) (args .buf .now) (ne-eqb _ _ (b .if1 .left)) (c .if2 .taken)
 
 words-of-settings-requires : tie.Need-words-of-settings-requires
 words-of-settings-requires c κs = search needs
@@ -37,15 +33,14 @@ same-length c = search needs
 
 returns-3 : tie.Need-returns-3
 returns-3 c =
-    let s = c .before .before .before .before .before .before .before .before .before .before .args .s in
-    let buf = c .before .before .before .before .before .before .before .before .before .before .args .buf .now in
-    let if1 = c .before .before .before .before .before .before .before .if1 in
-    let if2 = c .before .before .before .before .before .before .if2 in
-    let put-words = c .before .before .put-words in
-    let words-of-settings = c .before .before .before .before .before .words-of-settings in
+    let put = c .before .before in
+    let made = put .before .before .before in
+    let b = made .before .before in
+    let args = b .before .before .before .args in
     let m : _ =
-    message-written (settingsAreUnwritable s) (settingsWords s) buf (ne-eqb _ _ (if1 .left)) (if2 .left) in
-    (m .0, put-words .ensures ∙ ap (puts bytes32 4 buf 0) (words-of-settings .ensures) ∙ m .1)
+    message-written _ (settingsWords (args .s)) (args .buf .now) (ne-eqb _ _ (b .if1 .left))
+    (made .before .if2 .left) in
+    (m .0, put .put-words .ensures ∙ ap (puts bytes32 4 (args .buf .now) 0) (made .words-of-settings .ensures) ∙ m .1)
 
 pub write-settings-spec : {M : Type 1} → statement M
 write-settings-spec =

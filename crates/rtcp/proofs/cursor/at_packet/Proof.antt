@@ -1,104 +1,98 @@
--- A packet is entered where it is readable, and ends the walk where it is not.
-use mathlib.Core.Path.{sym, ap, _∙_}
-use native.Mathlib.Omega.{arith}
+-- The step by what the packet holds. One that is readable has its settings.
+use mathlib.Core.Path.{sym, _∙_}
 use borrow.Author.Needs.{needs}
-use Rattle.rtcp.specs.Packet.{contentIsShort}
-use Rattle.rtcp.specs.declared.packet.Head.{Head}
-use Rattle.rtcp.proofs.Laws.Advance.{packet-torn, packet-stops, packet-entered, unreadable-long, unreadable-short, readable-there}
+use Rattle.packet.proofs.Laws.Contents.{settings-read, settings-not-outside}
+use Rattle.rtcp.proofs.Laws.Advance.{at-packet}
 use Rattle.rtcp.proofs.cursor.at_packet.Statement.{statement}
 use Rattle.rtcp.proofs.cursor.at_packet.Tie as tie
 
-minus-requires : tie.Need-minus-requires
-minus-requires c κs = search needs
+packet-at-requires : tie.Need-packet-at-requires
+packet-at-requires c κs = search needs
+
+enum-known-next : tie.Need-enum-known-next
+enum-known-next c = search needs
+
+enum-known-first : tie.Need-enum-known-first
+enum-known-first c = search needs
+
+enum-known-sender : tie.Need-enum-known-sender
+enum-known-sender c = search needs
+
+enum-known-next-2 : tie.Need-enum-known-next-2
+enum-known-next-2 c = search needs
+
+settings-at-requires : tie.Need-settings-at-requires
+settings-at-requires c κs = search needs
+
+enum-told : tie.Need-enum-told
+enum-told c = search needs
+
+enum-known-s : tie.Need-enum-known-s
+enum-known-s c = search needs
+
+enum-told-2 : tie.Need-enum-told-2
+enum-told-2 c = search needs
 
 returns : tie.Need-returns
 returns c =
-    let d = c .before .before .before .args .d .now in
-    let p = c .before .before .before .args .p in
-    sym (packet-torn d p (omega arith))
-
-packet-size-requires : tie.Need-packet-size-requires
-packet-size-requires c κs = search needs
-
-add-if2 : tie.Need-add-if2
-add-if2 c = search needs
+    let b = c .before .before .before in
+    let a = b .before .before .args in
+    sym (at-packet (a .d .now) (a .p) (sym (b .packet-at .ensures) ∙ c .before .next .given .1))
 
 returns-2 : tie.Need-returns-2
 returns-2 c =
-    let d = c .before .before .before .before .before .args .d .now in
-    let p = c .before .before .before .before .before .args .p in
-    let minus = c .before .before .before .minus in
-    let packet-size = c .before .packet-size in
-    sym
-    (packet-stops d p (omega (arith, minus .ensures))
-    (unreadable-long d p (omega (arith, packet-size .ensures .0))))
-
-known-head-requires : tie.Need-known-head-requires
-known-head-requires c κs = search needs
-
-is-short-requires : tie.Need-is-short-requires
-is-short-requires c κs = search needs
+    let b = c .before .before .before in
+    let a = b .before .before .args in
+    sym (at-packet (a .d .now) (a .p) (sym (b .packet-at .ensures) ∙ c .before .first .given .1))
 
 returns-3 : tie.Need-returns-3
 returns-3 c =
-    let d = c .before .before .before .before .before .before .before .before .args .d .now in
-    let p = c .before .before .before .before .before .before .before .before .args .p in
-    let minus = c .before .before .before .before .before .before .minus in
-    let packet-size = c .before .before .before .before .packet-size in
-    let known-head = c .before .before .known-head in
-    let is-short = c .before .is-short in
-    let if3 = c .if3 in
-    sym
-    (packet-stops d p (omega (arith, minus .ensures))
-    (unreadable-short d p (omega (arith, packet-size .ensures .0))
-    (sym (ap (λ (x : Head). contentIsShort (x .kind) (x .count) (x .content)) (known-head .ensures .0))
-    ∙ sym (is-short .ensures)
-    ∙ if3 .taken)))
-
-enter-requires : tie.Need-enter-requires
-enter-requires c κs =
-    let known-head = c .before .before .known-head in
-    let d = c .before .before .before .before .before .before .before .before .args .d .now in
-    let p = c .before .before .before .before .before .before .before .before .args .p in
-    let packet-size = c .before .before .before .before .packet-size in
-    let is-short = c .before .is-short in
-    let if3 = c .if3 in (
-      known-head .ensures .0,
-      readable-there d p (omega (arith, packet-size .ensures .0))
-          (sym (ap (λ (x : Head). contentIsShort (x .kind) (x .count) (x .content)) (known-head .ensures .0))
-          ∙ sym (is-short .ensures)
-          ∙ if3 .left),
-    )
+    let b = c .before .before .before in
+    let a = b .before .before .args in
+    sym (at-packet (a .d .now) (a .p) (sym (b .packet-at .ensures) ∙ c .before .sender .given .1))
 
 returns-4 : tie.Need-returns-4
 returns-4 c =
-    let enter = c .enter in
-    let d = c .before .before .before .before .before .before .before .before .before .args .d .now in
-    let p = c .before .before .before .before .before .before .before .before .before .args .p in
-    let minus = c .before .before .before .before .before .before .before .minus in
-    let packet-size = c .before .before .before .before .before .packet-size in
-    let known-head = c .before .before .before .known-head in
-    let is-short = c .before .before .is-short in
-    let if3 = c .before .if3 in
-    enter .ensures
-    ∙ sym
-    (packet-entered d p (omega (arith, minus .ensures))
-    (readable-there d p (omega (arith, packet-size .ensures .0))
-    (sym (ap (λ (x : Head). contentIsShort (x .kind) (x .count) (x .content)) (known-head .ensures .0))
-    ∙ sym (is-short .ensures)
-    ∙ if3 .left)))
+    let n = c .before .before .before .before in
+    let b = n .before .before in
+    let a = b .before .before .args in
+    absurd
+    (settings-not-outside (a .d .now) (a .p) _ (sym (b .packet-at .ensures) ∙ n .next2 .given .1)
+    (sym (c .before .before .settings-at .ensures) ∙ c .enum-told .given .1))
+
+returns-5 : tie.Need-returns-5
+returns-5 c =
+    let n = c .before .before .before .before .before in
+    let b = n .before .before in
+    let a = b .before .before .args in
+    let e : _ = sym (b .packet-at .ensures) ∙ n .next2 .given .1 in
+    let f : _ =
+    settings-read (a .d .now) (a .p) _ e _
+    (sym (c .before .before .before .settings-at .ensures) ∙ c .before .s .given .1) in
+    let g : _ = at-packet (a .d .now) (a .p) e in cc
+
+returns-6 : tie.Need-returns-6
+returns-6 c =
+    let b = c .before .before in
+    let a = b .before .before .args in
+    sym (at-packet (a .d .now) (a .p) (sym (b .packet-at .ensures) ∙ c .enum-told2 .given .1))
 
 pub at-packet-spec : {M : Type 1} → statement M
 at-packet-spec =
     tie.close
     (tie.spec
-    minus-requires
+    packet-at-requires
+    enum-known-next
+    enum-known-first
+    enum-known-sender
+    enum-known-next-2
+    settings-at-requires
+    enum-told
+    enum-known-s
+    enum-told-2
     returns
-    packet-size-requires
-    add-if2
     returns-2
-    known-head-requires
-    is-short-requires
     returns-3
-    enter-requires
-    returns-4)
+    returns-4
+    returns-5
+    returns-6)

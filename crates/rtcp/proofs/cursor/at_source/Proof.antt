@@ -2,62 +2,45 @@
 use mathlib.Core.Path.{sym, _∙_}
 use native.Mathlib.Omega.{arith}
 use borrow.Author.Needs.{needs}
-use Rattle.rtcp.proofs.Laws.Advance.{sources-behind, sources-torn, sources-item, torn-not}
+use Rattle.packet.proofs.Laws.Bytes.{source-read}
+use Rattle.rtcp.proofs.Laws.Advance.{behind-sources, at-source}
 use Rattle.rtcp.proofs.cursor.at_source.Statement.{statement}
 use Rattle.rtcp.proofs.cursor.at_source.Tie as tie
 
 returns : tie.Need-returns
 returns c =
-    let d = c .before .before .args .d .now in
-    let at = c .before .before .args .at in
-    let stop = c .before .before .args .stop in
-    let next = c .before .before .args .next in
-    let if1 = c .if1 in
-    sym (sources-behind d at stop next (if1 .taken))
+    let a = c .before .before .args in
+    sym (behind-sources (a .d .now) (a .at) (a .stop) (a .next) (c .if1 .taken))
 
-is-torn-requires : tie.Need-is-torn-requires
-is-torn-requires c κs = search needs
+source-at-requires : tie.Need-source-at-requires
+source-at-requires c κs = search needs
+
+enum-told : tie.Need-enum-told
+enum-told c = search needs
+
+enum-known-source : tie.Need-enum-known-source
+enum-known-source c = search needs
+
+add-t12 : tie.Need-add-t12
+add-t12 c =
+    let b = c .before .before .before in
+    let a = b .before .before .before .args in
+    let r : _ = source-read (a .d .now) (a .stop) (a .at) _ (sym (b .source-at .ensures) ∙ c .before .source .given .1) in
+    omega (arith, r .0, r .1)
 
 returns-2 : tie.Need-returns-2
 returns-2 c =
-    let d = c .before .before .before .before .args .d .now in
-    let at = c .before .before .before .before .args .at in
-    let stop = c .before .before .before .before .args .stop in
-    let next = c .before .before .before .before .args .next in
-    let if1 = c .before .before .if1 in
-    let is-torn = c .before .is-torn in
-    let if2 = c .if2 in
-    sym (sources-torn d at stop next (if1 .left) (sym (is-torn .ensures) ∙ if2 .taken))
-
-read32-requires : tie.Need-read32-requires
-read32-requires c κs =
-    let d = c .before .before .before .before .args .d .now in
-    let at = c .before .before .before .before .args .at in
-    let stop = c .before .before .before .before .args .stop in
-    let is-torn = c .before .is-torn in
-    let if2 = c .if2 in
-    let w : _ = torn-not d at stop (sym (is-torn .ensures) ∙ if2 .left) in omega (arith, w .0, w .1)
-
-add-t11 : tie.Need-add-t11
-add-t11 c =
-    let d = c .before .before .before .before .before .args .d .now in
-    let at = c .before .before .before .before .before .args .at in
-    let stop = c .before .before .before .before .before .args .stop in
-    let is-torn = c .before .before .is-torn in
-    let if2 = c .before .if2 in
-    let w : _ = torn-not d at stop (sym (is-torn .ensures) ∙ if2 .left) in omega (arith, w .0, w .1)
+    let b = c .before .before in
+    let a = b .before .before .before .args in
+    sym (at-source (a .d .now) (a .at) (a .stop) (a .next) (b .before .if1 .left) (sym (b .source-at .ensures) ∙ c .enum-told .given .1))
 
 returns-3 : tie.Need-returns-3
 returns-3 c =
-    let d = c .before .before .before .before .before .args .d .now in
-    let at = c .before .before .before .before .before .args .at in
-    let stop = c .before .before .before .before .before .args .stop in
-    let next = c .before .before .before .before .before .args .next in
-    let if1 = c .before .before .before .if1 in
-    let is-torn = c .before .before .is-torn in
-    let if2 = c .before .if2 in
-    let e : _ = sources-item d at stop next (if1 .left) (sym (is-torn .ensures) ∙ if2 .left) in cc
+    let b = c .before .before .before in
+    let a = b .before .before .before .args in
+    sym (at-source (a .d .now) (a .at) (a .stop) (a .next) (b .before .if1 .left) (sym (b .source-at .ensures) ∙ c .before .source .given .1))
 
 pub at-source-spec : {M : Type 1} → statement M
 at-source-spec =
-    tie.close (tie.spec returns is-torn-requires returns-2 read32-requires add-t11 returns-3)
+    tie.close
+    (tie.spec returns source-at-requires enum-told enum-known-source add-t12 returns-2 returns-3)

@@ -8,7 +8,7 @@ use borrow.Author.Needs.{needs}
 use Rattle.idms.specs.declared.Placed.{Placed}
 use Rattle.rtcp.specs.Answers.{nothing}
 use Rattle.rtcp.specs.Cursor.{remaining}
-use Rattle.rtcp.specs.Datagram.{datagramItems}
+use Rattle.datagram.specs.Datagram.{datagramItems}
 use Rattle.rtcp.proofs.Laws.Answers.{getD-behind}
 use Rattle.rtcp.proofs.Laws.Cursor.{Good, start-good, at-item, at-end}
 use Rattle.rtcp.proofs.cursor.nth_item.Statement.{statement}

@@ -1,7 +1,7 @@
 -- A refusal is handed on, and a count comes with a cursor before the first item.
 use mathlib.Core.Path.{sym, _∙_}
 use borrow.Author.Needs.{needs}
-use Rattle.rtcp.proofs.Laws.Answers.{opened-passed, opened-refused}
+use Rattle.rtcp.proofs.Laws.Answers.{cursor-passed, cursor-refused}
 use Rattle.rtcp.proofs.cursor.open_datagram.Statement.{statement}
 use Rattle.rtcp.proofs.cursor.open_datagram.Tie as tie
 
@@ -19,14 +19,14 @@ returns c =
     let d = c .before .before .before .before .before .args .d .now in
     let r = c .before .r in
     let count-items = c .before .before .before .count-items in
-    sym (opened-refused d (r .given .0 .0) (sym (count-items .ensures) ∙ r .given .1))
+    sym (cursor-refused d (r .given .0 .0) (sym (count-items .ensures) ∙ r .given .1))
 
 returns-2 : tie.Need-returns-2
 returns-2 c =
     let d = c .before .before .before .before .before .args .d .now in
     let n = c .before .n in
     let count-items = c .before .before .before .count-items in
-    sym (opened-passed d (n .given .0 .0) (sym (count-items .ensures) ∙ n .given .1))
+    sym (cursor-passed d (n .given .0 .0) (sym (count-items .ensures) ∙ n .given .1))
 
 pub open-datagram-spec : {M : Type 1} → statement M
 open-datagram-spec =

@@ -1,281 +1,176 @@
--- A row for each report in turn; `Filling` says what is left to put. The measure is what is left of the content.
-use Prim.Native.Nat.{ℕ, _+_, _-_, _*_, _%_, _≤_}
-use mathlib.Core.Bool.{true, false}
-use mathlib.Core.List.{List, [], _++_}
-use mathlib.Core.Path.{_≡_, refl, sym, ap, _∙_}
+-- A row for each report in turn; `Filling` says what is left to put. The measure is what is left of the blocks.
+use Prim.Native.Nat.{_+_, _-_, _≤_}
+use mathlib.Core.Path.{_≡_, sym, ap, _∙_}
 use lib.ListN.{length}
 use lib.Seq.{paste}
 use native.Mathlib.Omega.{arith}
 use borrow.Author.Needs.{needs}
+use Rattle.datagram.specs.Datagram.{blocksCheck, blocksItems}
 use Rattle.idms.specs.Rows.{rowOf}
 use Rattle.idms.specs.declared.Item.{Item}
-use Rattle.idms.specs.declared.Placed.{Placed}
 use Rattle.idms.specs.declared.Report.{Report}
-use Rattle.rtcp.specs.Bytes.{be32}
-use Rattle.rtcp.specs.Datagram.{blocksCheck, blocksItems}
-use Rattle.rtcp.specs.Refusals.{passed}
-use Rattle.rtcp.specs.Report.{reports, reportAt, blockSize}
-use Rattle.rtcp.proofs.Laws.Blocks.{items-none, items-one, report-words}
-use Rattle.rtcp.proofs.Laws.Datagram.{blocks-turn, blocks-end}
-use Rattle.rtcp.proofs.Laws.Rows.{Filling, filling-start, filling-part, filling-row, filling-room, filling-end}
+use Rattle.packet.specs.Checks.{passed}
+use Rattle.packet.specs.Report.{reportAt}
+use Rattle.datagram.proofs.Laws.Datagram.{blocks-end}
+use Rattle.rtcp.proofs.Laws.Blocks.{report-turn, skipped-turn, not-refused, fields-read, fields-not-outside}
+use Rattle.rtcp.proofs.Laws.Rows.{Filling, filling-start, filling-none, filling-row, filling-room, filling-end}
 use Rattle.rtcp.proofs.rows.fill_blocks.Statement.{statement}
 use Rattle.rtcp.proofs.rows.fill_blocks.Tie as tie
 
 abbrev Inv-loop : tie.InvT-loop
-Inv-loop d rows₀ at p content sender stop k₀ cell₀ rows k cell =
-    (k ≤ p + content)
-    × ((p + content - k) % 4 ≡ 0)
-    × (blocksCheck d (p + content) k ≡ passed)
-    × Filling rows₀ at (blocksItems d (be32 d (p + 4)) (p + content) (p + 8)) rows cell (blocksItems d (be32 d (p + 4)) (p + content) k)
+Inv-loop d rows₀ at sender from stop place₀ cell₀ rows place cell =
+    (blocksCheck d stop place ≡ passed)
+    × Filling rows₀ at (blocksItems d sender stop from) rows cell (blocksItems d sender stop place)
 
 abbrev μ-loop : tie.MeasureT-loop
-μ-loop d rows₀ at p content sender stop k₀ cell₀ rows k cell = p + content - k
-
-add-read32 : tie.Need-add-read32 Inv-loop μ-loop
-add-read32 c = omega arith
-
-read32-requires : tie.Need-read32-requires Inv-loop μ-loop
-read32-requires c κs = omega arith
-
-add-stop : tie.Need-add-stop Inv-loop μ-loop
-add-stop c = omega arith
-
-add-k : tie.Need-add-k Inv-loop μ-loop
-add-k c = omega arith
+μ-loop d rows₀ at sender from stop place₀ cell₀ rows place cell = stop - place
 
 loop-holds : tie.Need-loop-holds Inv-loop μ-loop
 loop-holds c =
-    let pre = c .before .before .before .pre in
-    let rows = c .before .before .before .args .rows .now in
-    let at = c .before .before .before .args .at in
-    let d = c .before .before .before .args .d .now in
-    let p = c .before .before .before .args .p in
-    let content = c .before .before .before .args .content in (
-      omega arith,
-      omega arith,
-      pre .3,
-      filling-start rows at (blocksItems d (be32 d (p + 4)) (p + content) (p + 8)),
-    )
+    let b = c .before .before in
+    let a = b .args in
+    (b .pre .0, filling-start (a .rows .now) (a .at) (blocksItems (a .d .now) (a .sender) (a .stop) (a .from)))
 
-shared-slice-read-is-report : tie.Need-shared-slice-read-is-report Inv-loop μ-loop
-shared-slice-read-is-report c =
-    let inv = c .before .before .loop .inv in
-    let pre = c .before .before .before .before .before .before .pre in
-    omega (arith, inv .1, pre .2)
+block-at-requires : tie.Need-block-at-requires Inv-loop μ-loop
+block-at-requires c κs = search needs
 
-add-is-report : tie.Need-add-is-report Inv-loop μ-loop
-add-is-report c =
-    let inv = c .before .before .loop .inv in
-    let pre = c .before .before .before .before .before .before .pre in
-    omega (arith, inv .1, pre .2)
-
-shared-slice-read-is-report-2 : tie.Need-shared-slice-read-is-report-2 Inv-loop μ-loop
-shared-slice-read-is-report-2 c =
-    let inv = c .before .before .before .loop .inv in
-    let pre = c .before .before .before .before .before .before .before .pre in
-    omega (arith, inv .1, pre .2)
-
-is-report-requires : tie.Need-is-report-requires Inv-loop μ-loop
-is-report-requires c κs = search needs
-
-report-at-requires : tie.Need-report-at-requires Inv-loop μ-loop
-report-at-requires c κs =
-    let d = c .before .before .before .before .before .before .before .before .before .before .args .d .now in
-    let p = c .before .before .before .before .before .before .before .before .before .before .args .p in
-    let content = c .before .before .before .before .before .before .before .before .before .before .args .content in
-    let k = c .before .before .before .before .before .before .loop .k in
-    let inv = c .before .before .before .before .before .before .loop .inv in
-    let is-report = c .before .before .is-report in
-    let if1 = c .before .if1 in
-    let pre = c .before .before .before .before .before .before .before .before .before .before .pre in
-    let t : _ = blocks-turn d (be32 d (p + 4)) (p + content) k (omega arith) (inv .2) in
-    let r : reports d k ≡ true = sym (is-report .ensures) ∙ if1 .taken in
-    let s : blockSize d k ≡ 32 = omega (arith, report-words d (p + content) k (t .check) r) in
-    omega (arith, t .inside, s, pre .2)
-
-put-row-requires : tie.Need-put-row-requires Inv-loop μ-loop
-put-row-requires c κs =
-    let d = c .before .before .before .before .before .before .before .before .before .before .before .args .d .now in
-    let p = c .before .before .before .before .before .before .before .before .before .before .before .args .p in
-    let content = c .before .before .before .before .before .before .before .before .before .before .before .args .content in
-    let k = c .before .before .before .before .before .before .before .loop .k in
-    let inv = c .before .before .before .before .before .before .before .loop .inv in
-    let is-report = c .before .before .before .is-report in
-    let if1 = c .before .before .if1 in
-    let pre = c .before .before .before .before .before .before .before .before .before .before .before .pre in
-    let t : _ = blocks-turn d (be32 d (p + 4)) (p + content) k (omega arith) (inv .2) in
-    let r : reports d k ≡ true = sym (is-report .ensures) ∙ if1 .taken in
-    let s : blockSize d k ≡ 32 = omega (arith, report-words d (p + content) k (t .check) r) in
-    filling-room (inv .3) (record { place = k; item = Item.Report (reportAt d (be32 d (p + 4)) k) })
-    (blocksItems d (be32 d (p + 4)) (p + content) (k + blockSize d k))
-    (t .items
-    ∙ ap (λ (l : List Placed). l ++ (blocksItems d (be32 d (p + 4)) (p + content) (k + blockSize d k)))
-    (items-one d (be32 d (p + 4)) k r)) (pre .4)
-
-add-cell : tie.Need-add-cell Inv-loop μ-loop
-add-cell c =
-    let d = c .before .before .before .before .before .before .before .before .before .before .before .before .before .before .args .d .now in
-    let p = c .before .before .before .before .before .before .before .before .before .before .before .before .before .before .args .p in
-    let content = c .before .before .before .before .before .before .before .before .before .before .before .before .before .before .args .content in
-    let k = c .before .before .before .before .before .before .before .before .before .before .loop .k in
-    let inv = c .before .before .before .before .before .before .before .before .before .before .loop .inv in
-    let is-report = c .before .before .before .before .before .before .is-report in
-    let if1 = c .before .before .before .before .before .if1 in
-    let cell = c .before .before .before .before .before .before .before .before .before .before .loop .cell in
-    let rows = c .before .before .before .before .before .before .before .before .before .before .loop .rows in
-    let pre = c .before .before .before .before .before .before .before .before .before .before .before .before .before .before .pre in
-    let good = c .before .before .before .before .before .before .before .before .before .before .before .before .before .before .good in
-    let t : _ = blocks-turn d (be32 d (p + 4)) (p + content) k (omega arith) (inv .2) in
-    let r : reports d k ≡ true = sym (is-report .ensures) ∙ if1 .taken in
-    let s : blockSize d k ≡ 32 = omega (arith, report-words d (p + content) k (t .check) r) in
-    let m : cell + 10 ≤ length rows =
-    filling-room (inv .3) (record { place = k; item = Item.Report (reportAt d (be32 d (p + 4)) k) })
-    (blocksItems d (be32 d (p + 4)) (p + content) (k + blockSize d k))
-    (t .items
-    ∙ ap (λ (l : List Placed). l ++ (blocksItems d (be32 d (p + 4)) (p + content) (k + blockSize d k)))
-    (items-one d (be32 d (p + 4)) k r)) (pre .4) in
-    omega (arith, inv .3 .long, good)
-
-add-k-2 : tie.Need-add-k-2 Inv-loop μ-loop
-add-k-2 c =
-    let d = c .before .before .before .before .before .before .before .before .before .before .before .before .before .before .args .d .now in
-    let p = c .before .before .before .before .before .before .before .before .before .before .before .before .before .before .args .p in
-    let content = c .before .before .before .before .before .before .before .before .before .before .before .before .before .before .args .content in
-    let k = c .before .before .before .before .before .before .before .before .before .before .loop .k in
-    let inv = c .before .before .before .before .before .before .before .before .before .before .loop .inv in
-    let is-report = c .before .before .before .before .before .before .is-report in
-    let if1 = c .before .before .before .before .before .if1 in
-    let pre = c .before .before .before .before .before .before .before .before .before .before .before .before .before .before .pre in
-    let t : _ = blocks-turn d (be32 d (p + 4)) (p + content) k (omega arith) (inv .2) in
-    let r : reports d k ≡ true = sym (is-report .ensures) ∙ if1 .taken in
-    let s : blockSize d k ≡ 32 = omega (arith, report-words d (p + content) k (t .check) r) in
-    omega (arith, t .inside, s, pre .2)
-
-loop-less : tie.Need-loop-less Inv-loop μ-loop
-loop-less c =
-    let d = c .before .before .before .before .before .before .before .before .before .before .before .before .before .before .args .d .now in
-    let p = c .before .before .before .before .before .before .before .before .before .before .before .before .before .before .args .p in
-    let content = c .before .before .before .before .before .before .before .before .before .before .before .before .before .before .args .content in
-    let k = c .before .before .before .before .before .before .before .before .before .before .loop .k in
-    let inv = c .before .before .before .before .before .before .before .before .before .before .loop .inv in
-    let is-report = c .before .before .before .before .before .before .is-report in
-    let if1 = c .before .before .before .before .before .if1 in
-    let t : _ = blocks-turn d (be32 d (p + 4)) (p + content) k (omega arith) (inv .2) in
-    let r : reports d k ≡ true = sym (is-report .ensures) ∙ if1 .taken in
-    let s : blockSize d k ≡ 32 = omega (arith, report-words d (p + content) k (t .check) r) in
-    omega (arith, t .inside, s)
-
-loop-again : tie.Need-loop-again Inv-loop μ-loop
-loop-again c =
-    let d = c .before .before .before .before .before .before .before .before .before .before .before .before .before .before .args .d .now in
-    let p = c .before .before .before .before .before .before .before .before .before .before .before .before .before .before .args .p in
-    let content = c .before .before .before .before .before .before .before .before .before .before .before .before .before .before .args .content in
-    let k = c .before .before .before .before .before .before .before .before .before .before .loop .k in
-    let inv = c .before .before .before .before .before .before .before .before .before .before .loop .inv in
-    let is-report = c .before .before .before .before .before .before .is-report in
-    let if1 = c .before .before .before .before .before .if1 in
-    let put-row = c .before .before .put-row in
-    let pre = c .before .before .before .before .before .before .before .before .before .before .before .before .before .before .pre in
-    let rows = c .before .before .before .before .before .before .before .before .before .before .loop .rows in
-    let cell = c .before .before .before .before .before .before .before .before .before .before .loop .cell in
-    let report-at = c .before .before .before .report-at in
-    let read32 = c .before .before .before .before .before .before .before .before .before .before .before .read32 in
-    let t : _ = blocks-turn d (be32 d (p + 4)) (p + content) k (omega arith) (inv .2) in
-    let r : reports d k ≡ true = sym (is-report .ensures) ∙ if1 .taken in
-    let s : blockSize d k ≡ 32 = omega (arith, report-words d (p + content) k (t .check) r) in
-    let b : k + 32 ≡ k + blockSize d k = omega (arith, s) in
-    rw b (
-      omega (arith, t .inside),
-      omega (arith, t .inside, inv .1),
-      t .later,
-      filling-row (inv .3) (record { place = k; item = Item.Report (reportAt d (be32 d (p + 4)) k) })
-          (blocksItems d (be32 d (p + 4)) (p + content) (k + blockSize d k)) (put-row .last .0)
-          (t .items
-          ∙ ap (λ (l : List Placed). l ++ (blocksItems d (be32 d (p + 4)) (p + content) (k + blockSize d k)))
-          (items-one d (be32 d (p + 4)) k r)) (pre .4)
-          (put-row .ensures
-          ∙ ap (λ (x : Report). paste rows cell (rowOf (record { place = k; item = Item.Report x })) 10)
-          (report-at .ensures ∙ ap (λ (s : ℕ). reportAt d s k) (read32 .ensures))),
-    )
-
-add-read16 : tie.Need-add-read16 Inv-loop μ-loop
-add-read16 c =
-    let inv = c .before .before .before .before .before .loop .inv in
-    let pre = c .before .before .before .before .before .before .before .before .before .pre in
-    omega (arith, inv .1, pre .2)
-
-read16-requires : tie.Need-read16-requires Inv-loop μ-loop
-read16-requires c κs =
-    let inv = c .before .before .before .before .before .loop .inv in
-    let pre = c .before .before .before .before .before .before .before .before .before .pre in
-    omega (arith, inv .1, pre .2)
-
-add-k-3 : tie.Need-add-k-3 Inv-loop μ-loop
-add-k-3 c = omega arith
-
-mul-k : tie.Need-mul-k Inv-loop μ-loop
-mul-k c = omega arith
-
-add-k-4 : tie.Need-add-k-4 Inv-loop μ-loop
-add-k-4 c =
-    let d = c .before .before .before .before .before .before .before .before .before .before .args .d .now in
-    let p = c .before .before .before .before .before .before .before .before .before .before .args .p in
-    let content = c .before .before .before .before .before .before .before .before .before .before .args .content in
-    let k = c .before .before .before .before .before .before .loop .k in
-    let inv = c .before .before .before .before .before .before .loop .inv in
-    let read16 = c .read16 in
-    let pre = c .before .before .before .before .before .before .before .before .before .before .pre in
-    let t : _ = blocks-turn d (be32 d (p + 4)) (p + content) k (omega arith) (inv .2) in
-    omega (arith, t .inside, read16 .ensures .0, pre .2)
-
-loop-less-2 : tie.Need-loop-less-2 Inv-loop μ-loop
-loop-less-2 c =
-    let d = c .before .before .before .before .before .before .before .before .before .before .args .d .now in
-    let p = c .before .before .before .before .before .before .before .before .before .before .args .p in
-    let content = c .before .before .before .before .before .before .before .before .before .before .args .content in
-    let k = c .before .before .before .before .before .before .loop .k in
-    let inv = c .before .before .before .before .before .before .loop .inv in
-    let read16 = c .read16 in
-    let t : _ = blocks-turn d (be32 d (p + 4)) (p + content) k (omega arith) (inv .2) in
-    omega (arith, t .inside, read16 .ensures .0)
-
-loop-again-2 : tie.Need-loop-again-2 Inv-loop μ-loop
-loop-again-2 c =
-    let d = c .before .before .before .before .before .before .before .before .before .before .args .d .now in
-    let p = c .before .before .before .before .before .before .before .before .before .before .args .p in
-    let content = c .before .before .before .before .before .before .before .before .before .before .args .content in
-    let k = c .before .before .before .before .before .before .loop .k in
-    let inv = c .before .before .before .before .before .before .loop .inv in
-    let is-report = c .before .before .is-report in
-    let if1 = c .before .if1 in
-    let read16 = c .read16 in
-    let rows = c .before .before .before .before .before .before .loop .rows in
-    let cell = c .before .before .before .before .before .before .loop .cell in
-    let pre = c .before .before .before .before .before .before .before .before .before .before .pre in
-    let t : _ = blocks-turn d (be32 d (p + 4)) (p + content) k (omega arith) (inv .2) in
-    let r : reports d k ≡ false = sym (is-report .ensures) ∙ if1 .left in
-    let b : k + 4 * (read16 .result + 1) ≡ k + blockSize d k = omega (arith, read16 .ensures .0) in
-    rw b (
-      omega (arith, t .inside),
-      omega (arith, t .inside, inv .1),
-      t .later,
-      filling-part (inv .3) [] (blocksItems d (be32 d (p + 4)) (p + content) (k + blockSize d k)) rows cell
-          (t .items
-          ∙ ap (λ (l : List Placed). l ++ (blocksItems d (be32 d (p + 4)) (p + content) (k + blockSize d k)))
-          (items-none d (be32 d (p + 4)) k r)) (pre .4) refl (omega arith),
-    )
+enum-told : tie.Need-enum-told Inv-loop μ-loop
+enum-told c = search needs
 
 same-length : tie.Need-same-length Inv-loop μ-loop
-same-length c = c .before .loop .inv .3 .long
+same-length c = c .before .before .before .before .loop .inv .1 .long
 
 returns : tie.Need-returns Inv-loop μ-loop
 returns c =
-    let inv = c .before .loop .inv in
-    let d = c .before .before .before .before .before .args .d .now in
-    let p = c .before .before .before .before .before .args .p in
-    let content = c .before .before .before .before .before .args .content in
-    let k = c .before .loop .k in
-    filling-end (inv .3) (blocks-end d (be32 d (p + 4)) (p + content) k (omega arith))
+    let b = c .before .before .before .before in
+    let a = b .before .before .before .args in
+    absurd
+    (not-refused (a .d .now) (a .sender) (a .stop) (b .loop .place) (omega arith) (b .loop .inv .0) (c .enum-told .given .0 .0)
+    (sym (c .before .before .block-at .ensures) ∙ c .enum-told .given .1))
+
+enum-known-bytes : tie.Need-enum-known-bytes Inv-loop μ-loop
+enum-known-bytes c = search needs
+
+add-place : tie.Need-add-place Inv-loop μ-loop
+add-place c =
+    let b = c .before .before .before .before .before in
+    let a = b .before .before .before .args in
+    let i = c .before in
+    let t : _ =
+    skipped-turn (a .d .now) (a .sender) (a .stop) (b .loop .place) (omega arith) (b .loop .inv .0) (i .bytes .given .0 .0)
+    (sym (i .before .before .block-at .ensures) ∙ i .bytes .given .1) in
+    omega (arith, t .inside, t .within)
+
+loop-less : tie.Need-loop-less Inv-loop μ-loop
+loop-less c =
+    let b = c .before .before .before .before .before in
+    let a = b .before .before .before .args in
+    let i = c .before in
+    let t : _ =
+    skipped-turn (a .d .now) (a .sender) (a .stop) (b .loop .place) (omega arith) (b .loop .inv .0) (i .bytes .given .0 .0)
+    (sym (i .before .before .block-at .ensures) ∙ i .bytes .given .1) in
+    omega (arith, t .inside, t .whole)
+
+loop-again : tie.Need-loop-again Inv-loop μ-loop
+loop-again c =
+    let b = c .before .before .before .before .before in
+    let a = b .before .before .before .args in
+    let i = c .before in
+    let t : _ =
+    skipped-turn (a .d .now) (a .sender) (a .stop) (b .loop .place) (omega arith) (b .loop .inv .0) (i .bytes .given .0 .0)
+    (sym (i .before .before .block-at .ensures) ∙ i .bytes .given .1) in
+    (t .later, filling-none (b .loop .inv .1) _ (t .all))
+
+enum-told-2 : tie.Need-enum-told-2 Inv-loop μ-loop
+enum-told-2 c = search needs
+
+report-at-requires : tie.Need-report-at-requires Inv-loop μ-loop
+report-at-requires c κs = search needs
+
+enum-told-3 : tie.Need-enum-told-3 Inv-loop μ-loop
+enum-told-3 c = search needs
+
+same-length-2 : tie.Need-same-length-2 Inv-loop μ-loop
+same-length-2 c = c .before .before .before .before .before .before .before .loop .inv .1 .long
+
+returns-2 : tie.Need-returns-2 Inv-loop μ-loop
+returns-2 c =
+    let b = c .before .before .before .before .before .before .before in
+    let a = b .before .before .before .args in
+    let i = c .before .before .before in
+    absurd
+    (fields-not-outside (a .d .now) (a .sender) (a .stop) (b .loop .place) (sym (i .before .before .block-at .ensures) ∙ i .enum-told2 .given .1)
+    (sym (c .before .before .report-at .ensures) ∙ c .enum-told3 .given .1))
+
+enum-known-r : tie.Need-enum-known-r Inv-loop μ-loop
+enum-known-r c = search needs
+
+put-row-requires : tie.Need-put-row-requires Inv-loop μ-loop
+put-row-requires c κs =
+    let b = c .before .before .before .before .before .before .before .before .before in
+    let a = b .before .before .before .args in
+    let i = c .before .before .before .before .before in
+    let e : _ = sym (i .before .before .block-at .ensures) ∙ i .enum-told2 .given .1 in
+    let t : _ = report-turn (a .d .now) (a .sender) (a .stop) (b .loop .place) (omega arith) (b .loop .inv .0) e in
+    filling-room (b .loop .inv .1) (record { place = b .loop .place; item = Item.Report (reportAt (a .d .now) (a .sender) (b .loop .place)) })
+    (blocksItems (a .d .now) (a .sender) (a .stop) (b .loop .place + 32)) (t .all) (b .before .before .before .pre .1)
+
+add-cell : tie.Need-add-cell Inv-loop μ-loop
+add-cell c =
+    let b = c .before .before .before .before .before .before .before .before .before .before .before .before in
+    let a = b .before .before .before .args in
+    let i = c .before .before .before .before .before .before .before .before in
+    let e : _ = sym (i .before .before .block-at .ensures) ∙ i .enum-told2 .given .1 in
+    let t : _ = report-turn (a .d .now) (a .sender) (a .stop) (b .loop .place) (omega arith) (b .loop .inv .0) e in
+    let m : b .loop .cell + 10 ≤ length (b .loop .rows) =
+    filling-room (b .loop .inv .1) (record { place = b .loop .place; item = Item.Report (reportAt (a .d .now) (a .sender) (b .loop .place)) })
+    (blocksItems (a .d .now) (a .sender) (a .stop) (b .loop .place + 32)) (t .all) (b .before .before .before .pre .1) in
+    omega (arith, b .loop .inv .1 .long, b .before .before .before .good)
+
+add-place-2 : tie.Need-add-place-2 Inv-loop μ-loop
+add-place-2 c =
+    let b = c .before .before .before .before .before .before .before .before .before .before .before .before in
+    let a = b .before .before .before .args in
+    let i = c .before .before .before .before .before .before .before .before in
+    let e : _ = sym (i .before .before .block-at .ensures) ∙ i .enum-told2 .given .1 in
+    let t : _ = report-turn (a .d .now) (a .sender) (a .stop) (b .loop .place) (omega arith) (b .loop .inv .0) e in
+    omega (arith, t .inside, t .within)
+
+loop-less-2 : tie.Need-loop-less-2 Inv-loop μ-loop
+loop-less-2 c =
+    let b = c .before .before .before .before .before .before .before .before .before .before .before .before in
+    let a = b .before .before .before .args in
+    let i = c .before .before .before .before .before .before .before .before in
+    let e : _ = sym (i .before .before .block-at .ensures) ∙ i .enum-told2 .given .1 in
+    let t : _ = report-turn (a .d .now) (a .sender) (a .stop) (b .loop .place) (omega arith) (b .loop .inv .0) e in
+    omega (arith, t .inside)
+
+loop-again-2 : tie.Need-loop-again-2 Inv-loop μ-loop
+loop-again-2 c =
+    let b = c .before .before .before .before .before .before .before .before .before .before .before .before in
+    let a = b .before .before .before .args in
+    let i = c .before .before .before .before .before .before .before .before in
+    let e : _ = sym (i .before .before .block-at .ensures) ∙ i .enum-told2 .given .1 in
+    let t : _ = report-turn (a .d .now) (a .sender) (a .stop) (b .loop .place) (omega arith) (b .loop .inv .0) e in
+    let r = c .before .before .before .before .before in
+    let f : _ =
+    fields-read (a .d .now) (a .sender) (a .stop) (b .loop .place) (r .r .given .0 .0) e
+    (sym (r .before .before .report-at .ensures) ∙ r .r .given .1) in (
+      t .later,
+      filling-row (b .loop .inv .1) (record { place = b .loop .place; item = Item.Report (reportAt (a .d .now) (a .sender) (b .loop .place)) })
+          (blocksItems (a .d .now) (a .sender) (a .stop) (b .loop .place + 32)) (c .before .before .put-row .last .0) (t .all) (b .before .before .before .pre .1)
+          (c .before .before .put-row .ensures
+          ∙ ap (λ (x : Report). paste (b .loop .rows) (b .loop .cell) (rowOf (record { place = b .loop .place; item = Item.Report x })) 10) f),
+    )
+
+same-length-3 : tie.Need-same-length-3 Inv-loop μ-loop
+same-length-3 c = c .before .loop .inv .1 .long
+
+returns-3 : tie.Need-returns-3 Inv-loop μ-loop
+returns-3 c =
+    let b = c .before in
+    let a = b .before .before .before .args in
+    filling-end (b .loop .inv .1) (blocks-end (a .d .now) (a .sender) (a .stop) (b .loop .place) (c .loop-test .left))
 
 pub fill-blocks-spec : {M : Type 1} → statement M
 fill-blocks-spec =
@@ -283,27 +178,25 @@ fill-blocks-spec =
     (tie.spec
     Inv-loop
     μ-loop
-    add-read32
-    read32-requires
-    add-stop
-    add-k
     loop-holds
-    shared-slice-read-is-report
-    add-is-report
-    shared-slice-read-is-report-2
-    is-report-requires
-    report-at-requires
-    put-row-requires
-    add-cell
-    add-k-2
+    block-at-requires
+    enum-told
+    same-length
+    returns
+    enum-known-bytes
+    add-place
     loop-less
     loop-again
-    add-read16
-    read16-requires
-    add-k-3
-    mul-k
-    add-k-4
+    enum-told-2
+    report-at-requires
+    enum-told-3
+    same-length-2
+    returns-2
+    enum-known-r
+    put-row-requires
+    add-cell
+    add-place-2
     loop-less-2
     loop-again-2
-    same-length
-    returns)
+    same-length-3
+    returns-3)

@@ -1,5 +1,7 @@
--- The rows of a packet that has passed, by its type.
+-- The rows of a packet that has passed, by what it holds.
+use Prim.Native.Nat.{ℕ}
 use mathlib.Core.Path.{_≡_, refl, sym, ap, _∙_}
+use mathlib.Core.List.{List}
 use lib.ListN.{length}
 use lib.Seq.{paste}
 use native.Mathlib.Omega.{arith}
@@ -7,176 +9,165 @@ use borrow.Author.Needs.{needs}
 use Rattle.idms.specs.Rows.{rowOf}
 use Rattle.idms.specs.declared.Item.{Item}
 use Rattle.idms.specs.declared.Settings.{Settings}
-use Rattle.rtcp.specs.Packet.{packetType}
-use Rattle.rtcp.specs.declared.packet.Head.{Head}
-use Rattle.rtcp.proofs.Laws.Datagram.{head-of-packet, items-bye, items-xr, items-settings, items-unread, check-xr}
-use Rattle.rtcp.proofs.Laws.Packet.{head-passed, least-bye, least-xr, exact-settings}
+use Rattle.packet.specs.Contents.{contents}
+use Rattle.datagram.proofs.Laws.Datagram.{head-of-packet, items-of, check-of}
+use Rattle.packet.proofs.Laws.Contents.{holds, held-sources, packet-passed, settings-read, settings-not-outside}
+use Rattle.packet.proofs.Laws.Packet.{head-passed}
 use Rattle.rtcp.proofs.rows.fill_packet.Statement.{statement}
 use Rattle.rtcp.proofs.rows.fill_packet.Tie as tie
 
-packet-size-requires : tie.Need-packet-size-requires
-packet-size-requires c κs = search needs
+enum-told : tie.Need-enum-told
+enum-told c = search needs
 
-known-head-requires : tie.Need-known-head-requires
-known-head-requires c κs =
-    let d = c .before .before .before .args .d .now in
-    let p = c .before .before .before .args .p in
-    let pre = c .before .before .before .pre in
-    let packet-size = c .packet-size in
-    let h : _ = head-of-packet d p (pre .1) in
-    let k : _ = head-passed d p h in (packet-size .ensures .0, omega (arith, k .fits, packet-size .ensures .0))
-
-add-fill-sources : tie.Need-add-fill-sources
-add-fill-sources c = search needs
-
-mul-fill-sources : tie.Need-mul-fill-sources
-mul-fill-sources c = search needs
-
-add-fill-sources-2 : tie.Need-add-fill-sources-2
-add-fill-sources-2 c = search needs
-
-add-fill-sources-3 : tie.Need-add-fill-sources-3
-add-fill-sources-3 c = search needs
+enum-known-x : tie.Need-enum-known-x
+enum-known-x c = search needs
 
 fill-sources-requires : tie.Need-fill-sources-requires
 fill-sources-requires c κs =
-    let d = c .before .before .before .before .before .before .before .args .d .now in
-    let p = c .before .before .before .before .before .before .before .args .p in
-    let pre = c .before .before .before .before .before .before .before .pre in
-    let known-head = c .before .before .before .known-head in
-    let match = c .before .before .match in
-    let h : _ = head-of-packet d p (pre .1) in
+    let b = c .before .before .before .before .before .before in
+    let d = b .args .d .now in
+    let p = b .args .p in
+    let e : contents d p ≡ _ = sym (b .pre .0) ∙ c .before .before .x .given .1 in
+    let h : _ = head-of-packet d p (b .pre .1) in
     let k : _ = head-passed d p h in
-    let t : packetType d p ≡ 203 = sym (ap (λ (x : Head). x .kind) (known-head .ensures .0)) ∙ match .keys1 in
-    let m : _ = ap (λ (x : Head). x .count) (known-head .ensures .0) in (
-      omega (arith, m, k .fits, k .inside, least-bye _ _ _ (k .enough) t),
-      omega arith,
-      rw m (rw (items-bye d p t) at (pre .2)),
+    let w : _ = held-sources d p _ _ _ (rw e at (holds d p k)) in (
+      omega (arith, w .1, w .2, k .fits, k .inside),
+      omega (arith, w .0, w .1),
+      rw (items-of d p e) at (b .pre .2),
     )
+
+enum-known-x-2 : tie.Need-enum-known-x-2
+enum-known-x-2 c = search needs
 
 fill-blocks-requires : tie.Need-fill-blocks-requires
 fill-blocks-requires c κs =
-    let d = c .before .before .before .before .before .before .args .d .now in
-    let p = c .before .before .before .before .before .before .args .p in
-    let pre = c .before .before .before .before .before .before .pre in
-    let known-head = c .before .before .known-head in
-    let match = c .before .match in
-    let h : _ = head-of-packet d p (pre .1) in
-    let k : _ = head-passed d p h in
-    let t : packetType d p ≡ 207 = sym (ap (λ (x : Head). x .kind) (known-head .ensures .0)) ∙ match .keys2 in
-    let m : _ = ap (λ (x : Head). x .content) (known-head .ensures .0) in (
-      omega (arith, m, least-xr _ _ _ (k .enough) t),
-      rw m (k .words),
-      omega (arith, m, k .fits, k .inside),
-      rw m (sym (check-xr d p h t) ∙ pre .1),
-      rw m (rw (items-xr d p t) at (pre .2)),
+    let b = c .before .before .before .before .before .before in
+    let d = b .args .d .now in
+    let p = b .args .p in
+    let e : contents d p ≡ _ = sym (b .pre .0) ∙ c .before .before .x2 .given .1 in (
+      sym (check-of d p e (head-of-packet d p (b .pre .1))) ∙ b .pre .1,
+      rw (items-of d p e) at (b .pre .2),
     )
 
+enum-told-2 : tie.Need-enum-told-2
+enum-told-2 c = search needs
+
 settings-at-requires : tie.Need-settings-at-requires
-settings-at-requires c κs =
-    let d = c .before .before .before .before .before .before .args .d .now in
-    let p = c .before .before .before .before .before .before .args .p in
-    let pre = c .before .before .before .before .before .before .pre in
-    let known-head = c .before .before .known-head in
-    let match = c .before .match in
-    let h : _ = head-of-packet d p (pre .1) in
-    let k : _ = head-passed d p h in
-    let t : packetType d p ≡ 211 = sym (ap (λ (x : Head). x .kind) (known-head .ensures .0)) ∙ match .keys3 in
-    omega (arith, k .fits, k .inside, exact-settings _ _ _ (k .enough) t)
+settings-at-requires c κs = search needs
+
+enum-told-3 : tie.Need-enum-told-3
+enum-told-3 c = search needs
+
+enum-known-s : tie.Need-enum-known-s
+enum-known-s c = search needs
 
 put-row-requires : tie.Need-put-row-requires
 put-row-requires c κs =
-    let d = c .before .before .before .before .before .before .before .args .d .now in
-    let p = c .before .before .before .before .before .before .before .args .p in
-    let known-head = c .before .before .before .known-head in
-    let match = c .before .before .match in
-    let pre = c .before .before .before .before .before .before .before .pre in
-    let t : packetType d p ≡ 211 = sym (ap (λ (x : Head). x .kind) (known-head .ensures .0)) ∙ match .keys3 in
-    omega (arith, pre .2, ap length (items-settings d p t))
+    let t = c .before .before .before .before .before in
+    let b = t .before .before .before .before in
+    let d = b .args .d .now in
+    let p = b .args .p in
+    let e : contents d p ≡ _ = sym (b .pre .0) ∙ t .enum-told2 .given .1 in
+    omega (arith, b .pre .2, ap length (items-of d p e))
 
 add-result : tie.Need-add-result
 add-result c = search needs
 
-same-length : tie.Need-same-length
-same-length c = search needs
+enum-told-4 : tie.Need-enum-told-4
+enum-told-4 c = search needs
 
 returns : tie.Need-returns
 returns c =
-    let d = c .before .before .before .before .before .before .before .before .before .before .args .d .now in
-    let p = c .before .before .before .before .before .before .before .before .before .before .args .p in
-    let known-head = c .before .before .before .before .before .before .known-head in
-    let match = c .before .before .before .before .before .match in
-    let fill-sources = c .before .before .fill-sources in
-    let t : packetType d p ≡ 203 = sym (ap (λ (x : Head). x .kind) (known-head .ensures .0)) ∙ match .keys1 in
-    let m : _ = ap (λ (x : Head). x .count) (known-head .ensures .0) in
-    let r : _ = fill-sources .ensures in rw (items-bye d p t) (rw m at r)
+    let b = c .before .before .before .before in
+    let d = b .args .d .now in
+    let p = b .args .p in
+    let e : contents d p ≡ _ = sym (b .pre .0) ∙ c .enum-told .given .1 in
+    rw (items-of d p e) (omega arith, refl)
+
+same-length : tie.Need-same-length
+same-length c = search needs
+
+returns-2 : tie.Need-returns-2
+returns-2 c =
+    let b = c .before .before .before .before .before .before .before .before .before in
+    let d = b .args .d .now in
+    let p = b .args .p in
+    let e : contents d p ≡ _ = sym (b .pre .0) ∙ c .before .before .before .before .before .x .given .1 in
+    rw (items-of d p e) (c .before .before .fill-sources .ensures)
 
 same-length-2 : tie.Need-same-length-2
 same-length-2 c = search needs
 
-returns-2 : tie.Need-returns-2
-returns-2 c =
-    let d = c .before .before .before .before .before .before .before .before .before .args .d .now in
-    let p = c .before .before .before .before .before .before .before .before .before .args .p in
-    let known-head = c .before .before .before .before .before .known-head in
-    let match = c .before .before .before .before .match in
-    let fill-blocks = c .before .before .fill-blocks in
-    let t : packetType d p ≡ 207 = sym (ap (λ (x : Head). x .kind) (known-head .ensures .0)) ∙ match .keys2 in
-    let m : _ = ap (λ (x : Head). x .content) (known-head .ensures .0) in
-    let r : _ = fill-blocks .ensures in rw (items-xr d p t) (rw m at r)
+returns-3 : tie.Need-returns-3
+returns-3 c =
+    let b = c .before .before .before .before .before .before .before .before .before in
+    let d = b .args .d .now in
+    let p = b .args .p in
+    let e : contents d p ≡ _ = sym (b .pre .0) ∙ c .before .before .before .before .before .x2 .given .1 in
+    rw (items-of d p e) (c .before .before .fill-blocks .ensures)
+
+returns-4 : tie.Need-returns-4
+returns-4 c =
+    let t = c .before .before .before in
+    let b = t .before .before .before .before in
+    let d = b .args .d .now in
+    let p = b .args .p in
+    let e : contents d p ≡ _ = sym (b .pre .0) ∙ t .enum-told2 .given .1 in
+    absurd
+    (settings-not-outside d p _ (packet-passed d p (head-of-packet d p (b .pre .1)) ∙ e)
+    (sym (c .before .before .settings-at .ensures) ∙ c .enum-told3 .given .1))
 
 same-length-3 : tie.Need-same-length-3
 same-length-3 c = search needs
 
-returns-3 : tie.Need-returns-3
-returns-3 c =
-    let d = c .before .before .before .before .before .before .before .before .before .before .args .d .now in
-    let p = c .before .before .before .before .before .before .before .before .before .before .args .p in
-    let known-head = c .before .before .before .before .before .before .known-head in
-    let match = c .before .before .before .before .before .match in
-    let put-row = c .before .before .put-row in
-    let rows = c .before .before .before .before .before .before .before .before .before .before .args .rows .now in
-    let at = c .before .before .before .before .before .before .before .before .before .before .args .at in
-    let settings-at = c .before .before .before .settings-at in
-    let t : packetType d p ≡ 211 = sym (ap (λ (x : Head). x .kind) (known-head .ensures .0)) ∙ match .keys3 in
-    rw (items-settings d p t) (
+returns-5 : tie.Need-returns-5
+returns-5 c =
+    let s = c .before .before .before .before .before in
+    let t = s .before .before .before in
+    let b = t .before .before .before .before in
+    let d = b .args .d .now in
+    let p = b .args .p in
+    let e : contents d p ≡ _ = sym (b .pre .0) ∙ t .enum-told2 .given .1 in
+    let f : _ =
+    settings-read d p _ (packet-passed d p (head-of-packet d p (b .pre .1)) ∙ e) _
+    (sym (s .before .before .settings-at .ensures) ∙ s .s .given .1) in
+    let row : Settings → List ℕ = λ x. rowOf (record { place = p; item = Item.Settings x }) in
+    rw (items-of d p e) (
       omega arith,
-      put-row .ensures
-          ∙ ap (λ (s : Settings). paste rows at (rowOf (record { place = p; item = Item.Settings s })) 10)
-          (settings-at .ensures),
+      c .before .before .put-row .ensures
+          ∙ ap (λ (x : Settings). paste (b .args .rows .now) (b .args .at) (row x) 10) f,
     )
 
-returns-4 : tie.Need-returns-4
-returns-4 c =
-    let known-head = c .before .known-head in
-    let d = c .before .before .before .before .before .args .d .now in
-    let p = c .before .before .before .before .before .args .p in
-    let match = c .match in
-    let k : _ = sym (ap (λ (x : Head). x .kind) (known-head .ensures .0)) in
-    let i : _ =
-    items-unread d p (λ e. match .rest .0 .0 .1 (sym k ∙ e)) (λ e. match .rest .0 .1 (sym k ∙ e))
-    (λ e. match .rest .1 (sym k ∙ e)) in
-    rw i (omega arith, refl)
+returns-6 : tie.Need-returns-6
+returns-6 c =
+    let b = c .before .before .before .before in
+    let d = b .args .d .now in
+    let p = b .args .p in
+    let e : contents d p ≡ _ = sym (b .pre .0) ∙ c .enum-told4 .given .1 in
+    rw (items-of d p e) (omega arith, refl)
 
 pub fill-packet-spec : {M : Type 1} → statement M
 fill-packet-spec =
     tie.close
     (tie.spec
-    packet-size-requires
-    known-head-requires
-    add-fill-sources
-    mul-fill-sources
-    add-fill-sources-2
-    add-fill-sources-3
+    enum-told
+    enum-known-x
     fill-sources-requires
+    enum-known-x-2
     fill-blocks-requires
+    enum-told-2
     settings-at-requires
+    enum-told-3
+    enum-known-s
     put-row-requires
     add-result
-    same-length
+    enum-told-4
     returns
-    same-length-2
+    same-length
     returns-2
-    same-length-3
+    same-length-2
     returns-3
-    returns-4)
+    returns-4
+    same-length-3
+    returns-5
+    returns-6)

@@ -1,23 +1,24 @@
 -- The rows of the packets in turn, while rows are missing. The measure is what is left of the datagram.
-use Prim.Native.Nat.{_+_, _-_, _%_, _≤_}
+use Prim.Native.Nat.{_+_, _-_, _≤_}
 use mathlib.Core.Path.{_≡_, ap, _∙_}
 use lib.ListN.{length, length-append}
 use native.Mathlib.Omega.{arith}
-use Rattle.rtcp.specs.Datagram.{packetItems, packetsCheck, packetsItems, datagramItems}
-use Rattle.rtcp.specs.Packet.{size}
-use Rattle.rtcp.specs.Refusals.{passed}
+use borrow.Author.Needs.{needs}
+use Rattle.datagram.specs.Datagram.{packetItems, packetsCheck, packetsItems, datagramItems}
+use Rattle.packet.specs.Checks.{passed}
+use Rattle.packet.specs.Contents.{contents}
+use Rattle.packet.specs.Packet.{size}
+use Rattle.rtcp.specs.Rows.{behind}
+use Rattle.datagram.proofs.Laws.Datagram.{packets-turn}
+use Rattle.packet.proofs.Laws.Contents.{packet-passed}
 use Rattle.rtcp.proofs.Laws.Cursor.{start-good}
-use Rattle.rtcp.proofs.Laws.Datagram.{packets-turn}
-use Rattle.rtcp.proofs.Laws.Rows.{Filling, filling-start, filling-part, filling-end, packets-left, none-left}
+use Rattle.rtcp.proofs.Laws.Rows.{Filling, filling-start, filling-part, filling-end, packets-left, none-left, behind-contents}
 use Rattle.rtcp.proofs.rows.fill_rows.Statement.{statement}
 use Rattle.rtcp.proofs.rows.fill_rows.Tie as tie
 
 abbrev Inv-loop : tie.InvT-loop
 Inv-loop d rows₀ n end p₀ cell₀ rows p cell =
-    (p ≤ length d)
-    × ((length d - p) % 4 ≡ 0)
-    × (packetsCheck d p ≡ passed)
-    × Filling rows₀ 0 (datagramItems d) rows cell (packetsItems d p)
+    (packetsCheck d p ≡ passed) × Filling rows₀ 0 (datagramItems d) rows cell (packetsItems d p)
 
 abbrev μ-loop : tie.MeasureT-loop
 μ-loop d rows₀ n end p₀ cell₀ rows p cell = length d - p
@@ -28,111 +29,81 @@ mul-end c = omega (arith, c .before .before .good)
 loop-holds : tie.Need-loop-holds Inv-loop μ-loop
 unfolding datagramItems
 loop-holds c =
-    let d = c .before .before .args .d .now in
-    let pre = c .before .before .pre in
-    let rows = c .before .before .args .rows .now in
-    let g : _ = start-good d (pre .0) in (omega arith, g .0, g .1, filling-start rows 0 (packetsItems d 0))
+    let b = c .before .before in
+    let d = b .args .d .now in
+    (start-good d (b .pre .0), filling-start (b .args .rows .now) 0 (packetsItems d 0))
+
+packet-at-requires : tie.Need-packet-at-requires Inv-loop μ-loop
+packet-at-requires c κs = search needs
 
 fill-packet-requires : tie.Need-fill-packet-requires Inv-loop μ-loop
 fill-packet-requires c κs =
-    let d = c .before .before .before .before .before .args .d .now in
-    let rows = c .before .before .before .before .before .args .rows .now in
-    let rows′ = c .before .before .loop .rows in
-    let cell = c .before .before .loop .cell in
-    let p = c .before .before .loop .p in
-    let n′ = c .before .before .before .before .before .args .n in
-    let inv = c .before .before .loop .inv in
-    let pre = c .before .before .before .before .before .pre in
-    let loop-test = c .before .loop-test in
-    let l : _ = packets-left d rows rows′ cell p n′ (inv .3) (pre .1) (loop-test .taken) in
-    let t : _ = packets-turn d p l (inv .2) in
-    let n : _ = ap length (t .items) ∙ length-append (packetItems d p) (packetsItems d (p + size d p)) in
-    (omega (arith, inv .1, l), t .check, omega (arith, n, inv .3 .cells, inv .3 .long, pre .1, pre .2))
+    let b = c .before .before .before in
+    let s = b .before .before .before in
+    let d = s .args .d .now in
+    let p = b .loop .p in
+    let l : _ =
+    packets-left d (s .args .rows .now) (b .loop .rows) (b .loop .cell) p (s .args .n) (b .loop .inv .1) (s .pre .1)
+    (c .before .before .loop-test .taken) in
+    let t : _ = packets-turn d p l (b .loop .inv .0) in
+    let n : _ = ap length (t .items) ∙ length-append (packetItems d p) (packetsItems d (p + size d p)) in (
+      c .before .packet-at .ensures ∙ packet-passed d p (t .head),
+      t .check,
+      omega (arith, n, b .loop .inv .1 .cells, b .loop .inv .1 .long, s .pre .1, s .pre .2),
+    )
 
-packet-size-requires : tie.Need-packet-size-requires Inv-loop μ-loop
-packet-size-requires c κs =
-    let d = c .before .before .before .before .before .before .before .before .args .d .now in
-    let rows = c .before .before .before .before .before .before .before .before .args .rows .now in
-    let rows′ = c .before .before .before .before .before .loop .rows in
-    let cell = c .before .before .before .before .before .loop .cell in
-    let p = c .before .before .before .before .before .loop .p in
-    let n = c .before .before .before .before .before .before .before .before .args .n in
-    let inv = c .before .before .before .before .before .loop .inv in
-    let pre = c .before .before .before .before .before .before .before .before .pre in
-    let loop-test = c .before .before .before .before .loop-test in
-    let l : _ = packets-left d rows rows′ cell p n (inv .3) (pre .1) (loop-test .taken) in
-    let t : _ = packets-turn d p l (inv .2) in omega (arith, inv .1, l)
-
-add-p : tie.Need-add-p Inv-loop μ-loop
-add-p c =
-    let d = c .before .before .before .before .before .before .before .before .before .args .d .now in
-    let rows = c .before .before .before .before .before .before .before .before .before .args .rows .now in
-    let rows′ = c .before .before .before .before .before .before .loop .rows in
-    let cell = c .before .before .before .before .before .before .loop .cell in
-    let p = c .before .before .before .before .before .before .loop .p in
-    let n = c .before .before .before .before .before .before .before .before .before .args .n in
-    let inv = c .before .before .before .before .before .before .loop .inv in
-    let pre = c .before .before .before .before .before .before .before .before .before .pre in
-    let loop-test = c .before .before .before .before .before .loop-test in
-    let packet-size = c .packet-size in
-    let l : _ = packets-left d rows rows′ cell p n (inv .3) (pre .1) (loop-test .taken) in
-    let t : _ = packets-turn d p l (inv .2) in omega (arith, t .known .fits, packet-size .ensures .0)
+next-place-requires : tie.Need-next-place-requires Inv-loop μ-loop
+next-place-requires c κs = search needs
 
 loop-less : tie.Need-loop-less Inv-loop μ-loop
 loop-less c =
-    let d = c .before .before .before .before .before .before .before .before .before .args .d .now in
-    let rows = c .before .before .before .before .before .before .before .before .before .args .rows .now in
-    let rows′ = c .before .before .before .before .before .before .loop .rows in
-    let cell = c .before .before .before .before .before .before .loop .cell in
-    let p = c .before .before .before .before .before .before .loop .p in
-    let n = c .before .before .before .before .before .before .before .before .before .args .n in
-    let inv = c .before .before .before .before .before .before .loop .inv in
-    let pre = c .before .before .before .before .before .before .before .before .before .pre in
-    let loop-test = c .before .before .before .before .before .loop-test in
-    let packet-size = c .packet-size in
-    let l : _ = packets-left d rows rows′ cell p n (inv .3) (pre .1) (loop-test .taken) in
-    let t : _ = packets-turn d p l (inv .2) in omega (arith, l, packet-size .ensures .0)
+    let b = c .before .before .before .before .before .before .before in
+    let s = b .before .before .before in
+    let d = s .args .d .now in
+    let p = b .loop .p in
+    let l : _ =
+    packets-left d (s .args .rows .now) (b .loop .rows) (b .loop .cell) p (s .args .n) (b .loop .inv .1) (s .pre .1)
+    (c .before .before .before .before .before .before .loop-test .taken) in
+    let t : _ = packets-turn d p l (b .loop .inv .0) in
+    let x : c .before .before .before .before .before .packet-at .result ≡ contents d p =
+    c .before .before .before .before .before .packet-at .ensures ∙ packet-passed d p (t .head) in
+    let b′ : c .next-place .result ≡ p + size d p =
+    c .next-place .ensures ∙ ap behind x ∙ behind-contents d p (t .known) in
+    omega (arith, l, b′)
 
 loop-again : tie.Need-loop-again Inv-loop μ-loop
 loop-again c =
-    let d = c .before .before .before .before .before .before .before .before .before .args .d .now in
-    let rows = c .before .before .before .before .before .before .before .before .before .args .rows .now in
-    let rows′ = c .before .before .before .before .before .before .loop .rows in
-    let cell = c .before .before .before .before .before .before .loop .cell in
-    let p = c .before .before .before .before .before .before .loop .p in
-    let n = c .before .before .before .before .before .before .before .before .before .args .n in
-    let inv = c .before .before .before .before .before .before .loop .inv in
-    let pre = c .before .before .before .before .before .before .before .before .before .pre in
-    let loop-test = c .before .before .before .before .before .loop-test in
-    let packet-size = c .packet-size in
-    let fill-packet = c .before .before .before .fill-packet in
-    let l : _ = packets-left d rows rows′ cell p n (inv .3) (pre .1) (loop-test .taken) in
-    let t : _ = packets-turn d p l (inv .2) in
-    let b : p + packet-size .result ≡ p + size d p = omega (arith, packet-size .ensures .0) in
-    rw b (
-      t .known .fits,
-      omega (arith, inv .1, t .known .fits),
+    let b = c .before .before .before .before .before .before .before in
+    let s = b .before .before .before in
+    let d = s .args .d .now in
+    let p = b .loop .p in
+    let l : _ =
+    packets-left d (s .args .rows .now) (b .loop .rows) (b .loop .cell) p (s .args .n) (b .loop .inv .1) (s .pre .1)
+    (c .before .before .before .before .before .before .loop-test .taken) in
+    let t : _ = packets-turn d p l (b .loop .inv .0) in
+    let x : c .before .before .before .before .before .packet-at .result ≡ contents d p =
+    c .before .before .before .before .before .packet-at .ensures ∙ packet-passed d p (t .head) in
+    let b′ : c .next-place .result ≡ p + size d p =
+    c .next-place .ensures ∙ ap behind x ∙ behind-contents d p (t .known) in
+    let f = c .before .before .before in
+    rw b′ (
       t .later,
-      filling-part (inv .3) (packetItems d p) (packetsItems d (p + size d p)) (fill-packet .last .1 .0)
-          (fill-packet .result) (t .items) (omega (arith, pre .1, pre .2)) (fill-packet .ensures .1)
-          (fill-packet .ensures .0),
+      filling-part (b .loop .inv .1) (packetItems d p) (packetsItems d (p + size d p)) (f .fill-packet .last .1 .0)
+          (f .fill-packet .result) (t .items) (omega (arith, s .pre .1, s .pre .2)) (f .fill-packet .ensures .1)
+          (f .fill-packet .ensures .0),
     )
 
 same-length : tie.Need-same-length Inv-loop μ-loop
-same-length c = c .before .loop .inv .3 .long
+same-length c = c .before .loop .inv .1 .long
 
 returns : tie.Need-returns Inv-loop μ-loop
 returns c =
-    let inv = c .before .loop .inv in
-    let d = c .before .before .before .before .args .d .now in
-    let rows = c .before .before .before .before .args .rows .now in
-    let rows′ = c .before .loop .rows in
-    let cell = c .before .loop .cell in
-    let p = c .before .loop .p in
-    let n = c .before .before .before .before .args .n in
-    let pre = c .before .before .before .before .pre in
-    let loop-test = c .loop-test in
-    filling-end (inv .3) (none-left d rows rows′ cell p n (inv .3) (pre .1) (loop-test .left)) .1
+    let b = c .before in
+    let s = b .before .before .before in
+    let d = s .args .d .now in
+    filling-end (b .loop .inv .1)
+    (none-left d (s .args .rows .now) (b .loop .rows) (b .loop .cell) (b .loop .p) (s .args .n) (b .loop .inv .1) (s .pre .1)
+    (c .loop-test .left)) .1
 
 pub fill-rows-spec : {M : Type 1} → statement M
 fill-rows-spec =
@@ -142,9 +113,9 @@ fill-rows-spec =
     μ-loop
     mul-end
     loop-holds
+    packet-at-requires
     fill-packet-requires
-    packet-size-requires
-    add-p
+    next-place-requires
     loop-less
     loop-again
     same-length

@@ -1,108 +1,113 @@
 -- A row for each source in turn; `Filling` says what is left to put. The measure is what is left of the sources.
 use Prim.Native.Nat.{ℕ, _+_, _-_, _%_, _≤_}
-use mathlib.Core.Path.{_≡_, ap, _∙_}
+use mathlib.Core.Path.{_≡_, sym, ap, _∙_}
 use lib.ListN.{length}
 use lib.Seq.{paste}
 use native.Mathlib.Omega.{arith}
+use borrow.Author.Needs.{needs}
+use Rattle.datagram.specs.Datagram.{sourceItems}
 use Rattle.idms.specs.Rows.{rowOf}
 use Rattle.idms.specs.declared.Item.{Item}
-use Rattle.rtcp.specs.Datagram.{sourceItems}
-use Rattle.rtcp.specs.Farewell.{farewellItem}
-use Rattle.rtcp.proofs.Laws.Datagram.{sources-part, sources-end}
+use Rattle.packet.specs.Farewell.{farewellItem}
+use Rattle.packet.specs.declared.bytes.Source.{Source}
+use Rattle.datagram.proofs.Laws.Datagram.{sources-part, sources-end}
+use Rattle.packet.proofs.Laws.Bytes.{source-inside, source-read}
 use Rattle.rtcp.proofs.Laws.Rows.{Filling, filling-start, filling-row, filling-room, filling-end}
 use Rattle.rtcp.proofs.rows.fill_sources.Statement.{statement}
 use Rattle.rtcp.proofs.rows.fill_sources.Tie as tie
 
 abbrev Inv-loop : tie.InvT-loop
 Inv-loop d rows₀ at from stop k₀ cell₀ rows k cell =
-    ((stop - k) % 4 ≡ 0)
-    × Filling rows₀ at (sourceItems d stop from) rows cell (sourceItems d stop k)
+    ((stop - k) % 4 ≡ 0) × Filling rows₀ at (sourceItems d stop from) rows cell (sourceItems d stop k)
 
 abbrev μ-loop : tie.MeasureT-loop
 μ-loop d rows₀ at from stop k₀ cell₀ rows k cell = stop - k
 
 loop-holds : tie.Need-loop-holds Inv-loop μ-loop
 loop-holds c =
-    let pre = c .before .before .pre in
-    let rows = c .before .before .args .rows .now in
-    let at = c .before .before .args .at in
-    let d = c .before .before .args .d .now in
-    let stop = c .before .before .args .stop in
-    let from = c .before .before .args .from in
-    (pre .1, filling-start rows at (sourceItems d stop from))
+    let b = c .before .before in
+    (b .pre .1, filling-start (b .args .rows .now) (b .args .at) (sourceItems (b .args .d .now) (b .args .stop) (b .args .from)))
 
-read32-requires : tie.Need-read32-requires Inv-loop μ-loop
-read32-requires c κs =
-    let pre = c .before .before .before .before .before .pre in
-    omega (arith, pre .0, c .before .before .loop .inv .0)
+source-at-requires : tie.Need-source-at-requires Inv-loop μ-loop
+source-at-requires c κs = search needs
+
+enum-told : tie.Need-enum-told Inv-loop μ-loop
+enum-told c = search needs
+
+same-length : tie.Need-same-length Inv-loop μ-loop
+same-length c = c .before .before .before .before .loop .inv .1 .long
+
+returns : tie.Need-returns Inv-loop μ-loop
+returns c =
+    let b = c .before .before .before .before in
+    let a = b .before .before .before .args in
+    let s : _ =
+    source-inside (a .d .now) (a .stop) (b .loop .k) (b .before .before .before .pre .0)
+    (omega (arith, b .loop .inv .0)) in
+    let e : Source.Number _ ≡ Source.Outside =
+    sym s ∙ sym (c .before .before .source-at .ensures) ∙ c .enum-told .given .1 in
+    let z : _≡_ {A = ℕ} 0 1 = cc in
+    absurd (omega arith)
+
+enum-known-source : tie.Need-enum-known-source Inv-loop μ-loop
+enum-known-source c = search needs
 
 put-row-requires : tie.Need-put-row-requires Inv-loop μ-loop
 put-row-requires c κs =
-    let inv = c .before .before .before .loop .inv in
-    let d = c .before .before .before .before .before .before .args .d .now in
-    let k = c .before .before .before .loop .k in
-    let stop = c .before .before .before .before .before .before .args .stop in
-    let loop-test = c .before .before .loop-test in
-    let pre = c .before .before .before .before .before .before .pre in
-    filling-room (inv .1) (farewellItem d k) (sourceItems d stop (k + 4))
-    (sources-part d stop k (loop-test .taken)) (pre .2)
+    let t = c .before .before .before .before .before in
+    let b = t .before in
+    let a = b .before .before .before .args in
+    filling-room (b .loop .inv .1)
+    (farewellItem (a .d .now) (b .loop .k)) (sourceItems (a .d .now) (a .stop) (b .loop .k + 4))
+    (sources-part (a .d .now) (a .stop) (b .loop .k) (t .loop-test .taken))
+    (b .before .before .before .pre .2)
 
 add-cell : tie.Need-add-cell Inv-loop μ-loop
 add-cell c =
-    let cell = c .before .before .before .before .before .before .loop .cell in
-    let rows = c .before .before .before .before .before .before .loop .rows in
-    let inv = c .before .before .before .before .before .before .loop .inv in
-    let d = c .before .before .before .before .before .before .before .before .before .args .d .now in
-    let k = c .before .before .before .before .before .before .loop .k in
-    let stop = c .before .before .before .before .before .before .before .before .before .args .stop in
-    let loop-test = c .before .before .before .before .before .loop-test in
-    let pre = c .before .before .before .before .before .before .before .before .before .pre in
-    let good = c .before .before .before .before .before .before .before .before .before .good in
-    let r : cell + 10 ≤ length rows =
-    filling-room (inv .1) (farewellItem d k) (sourceItems d stop (k + 4))
-    (sources-part d stop k (loop-test .taken)) (pre .2) in
-    omega (arith, inv .1 .long, good)
+    let t = c .before .before .before .before .before .before .before .before in
+    let b = t .before in
+    let a = b .before .before .before .args in
+    let m : b .loop .cell + 10 ≤ length (b .loop .rows) =
+    filling-room (b .loop .inv .1)
+    (farewellItem (a .d .now) (b .loop .k)) (sourceItems (a .d .now) (a .stop) (b .loop .k + 4))
+    (sources-part (a .d .now) (a .stop) (b .loop .k) (t .loop-test .taken))
+    (b .before .before .before .pre .2) in
+    omega (arith, b .loop .inv .1 .long, b .before .before .before .good)
 
 add-k : tie.Need-add-k Inv-loop μ-loop
 add-k c =
-    let pre = c .before .before .before .before .before .before .before .before .before .pre in
-    let inv = c .before .before .before .before .before .before .loop .inv in
-    omega (arith, pre .0, inv .0)
+    let b = c .before .before .before .before .before .before .before .before .before in
+    omega (arith, b .loop .inv .0, b .before .before .before .pre .0)
 
 loop-less : tie.Need-loop-less Inv-loop μ-loop
 loop-less c = omega arith
 
 loop-again : tie.Need-loop-again Inv-loop μ-loop
 loop-again c =
-    let inv = c .before .before .before .before .before .before .loop .inv in
-    let d = c .before .before .before .before .before .before .before .before .before .args .d .now in
-    let k = c .before .before .before .before .before .before .loop .k in
-    let stop = c .before .before .before .before .before .before .before .before .before .args .stop in
-    let put-row = c .before .before .put-row in
-    let loop-test = c .before .before .before .before .before .loop-test in
-    let pre = c .before .before .before .before .before .before .before .before .before .pre in
-    let rows = c .before .before .before .before .before .before .loop .rows in
-    let cell = c .before .before .before .before .before .before .loop .cell in
-    let read32 = c .before .before .before .read32 in (
-      omega (arith, inv .0),
-      filling-row (inv .1) (farewellItem d k) (sourceItems d stop (k + 4)) (put-row .last .0)
-          (sources-part d stop k (loop-test .taken)) (pre .2)
-          (put-row .ensures
-          ∙ ap (λ (s : ℕ). paste rows cell (rowOf (record { place = k; item = Item.Farewell s })) 10)
-          (read32 .ensures)),
+    let t = c .before .before .before .before .before .before .before .before in
+    let b = t .before in
+    let a = b .before .before .before .args in
+    let i = c .before .before .before .before .before in
+    let s : _ =
+    source-read (a .d .now) (a .stop) (b .loop .k) (i .source .given .0 .0)
+    (sym (i .before .before .source-at .ensures) ∙ i .source .given .1) in (
+      omega (arith, b .loop .inv .0),
+      filling-row (b .loop .inv .1) (farewellItem (a .d .now) (b .loop .k))
+          (sourceItems (a .d .now) (a .stop) (b .loop .k + 4)) (c .before .before .put-row .last .0)
+          (sources-part (a .d .now) (a .stop) (b .loop .k) (t .loop-test .taken)) (b .before .before .before .pre .2)
+          (c .before .before .put-row .ensures
+          ∙ ap (λ (s : ℕ). paste (b .loop .rows) (b .loop .cell) (rowOf (record { place = b .loop .k; item = Item.Farewell s })) 10)
+          (s .2)),
     )
 
-same-length : tie.Need-same-length Inv-loop μ-loop
-same-length c = c .before .loop .inv .1 .long
+same-length-2 : tie.Need-same-length-2 Inv-loop μ-loop
+same-length-2 c = c .before .loop .inv .1 .long
 
-returns : tie.Need-returns Inv-loop μ-loop
-returns c =
-    let inv = c .before .loop .inv in
-    let d = c .before .before .before .before .args .d .now in
-    let stop = c .before .before .before .before .args .stop in
-    let k = c .before .loop .k in
-    let loop-test = c .loop-test in
-    filling-end (inv .1) (sources-end d stop k (loop-test .left))
+returns-2 : tie.Need-returns-2 Inv-loop μ-loop
+returns-2 c =
+    let b = c .before in
+    let a = b .before .before .before .args in
+    filling-end (b .loop .inv .1) (sources-end (a .d .now) (a .stop) (b .loop .k) (c .loop-test .left))
 
 pub fill-sources-spec : {M : Type 1} → statement M
 fill-sources-spec =
@@ -111,11 +116,15 @@ fill-sources-spec =
     Inv-loop
     μ-loop
     loop-holds
-    read32-requires
+    source-at-requires
+    enum-told
+    same-length
+    returns
+    enum-known-source
     put-row-requires
     add-cell
     add-k
     loop-less
     loop-again
-    same-length
-    returns)
+    same-length-2
+    returns-2)

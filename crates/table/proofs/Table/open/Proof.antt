@@ -1,7 +1,7 @@
 -- Check 12 decides between the two cases of `opened`.
 use mathlib.Core.Path.{sym, _∙_}
 use borrow.Author.Needs.{needs}
-use Rattle.table.proofs.Cases.{opened-refused, opened-taken}
+use Rattle.table.proofs.Laws.Cases.{opened-refused, opened-taken}
 use Rattle.table.proofs.Table.open.Statement.{statement}
 use Rattle.table.proofs.Table.open.Tie as tie
 

@@ -3,7 +3,7 @@
 use mathlib.Core.Path.{sym, _∙_}
 use borrow.Author.Needs.{needs}
 use Rattle.register.specs.Register.{Call}
-use Rattle.table.proofs.Cases.{call-refused, call-accepted, report-number-there, report-room}
+use Rattle.table.proofs.Laws.Cases.{call-refused, call-accepted, report-number-there, report-room}
 use Rattle.table.proofs.Table.report.Statement.{statement}
 use Rattle.table.proofs.Table.report.Tie as tie
 
@@ -21,37 +21,39 @@ report-number-requires c κs = search needs
 
 returns : tie.Need-returns
 returns c =
-    let args = c .before .before .before .before .before .before .before .args in
+    let b = c .before in
+    let args = b .before .before .before .before .before .before .args in
     let e : _ =
     report-number-there (args .self) (args .x) (args .at) _ _ _ _
-    (c .before .before .before .before .place-of .ensures .0)
-    (c .before .before .before .is-elsewhere .ensures)
-    (c .before .before .is-without-room .ensures)
-    (c .before .report-number .ensures) in
+    (b .before .before .before .place-of .ensures)
+    (b .before .before .is-elsewhere .ensures)
+    (b .before .is-without-room .ensures)
+    (b .report-number .ensures) in
     call-refused (args .self) _ _ e (c .if1 .taken)
 
 file-requires : tie.Need-file-requires
 file-requires c κs =
-    let args = c .before .before .before .before .before .before .before .args in
+    let b = c .before in
+    let args = b .before .before .before .before .before .before .args in
+    let place-of = b .before .before .before .place-of in
     let e : _ =
     report-number-there (args .self) (args .x) (args .at) _ _ _ _
-    (c .before .before .before .before .place-of .ensures .0)
-    (c .before .before .before .is-elsewhere .ensures)
-    (c .before .before .is-without-room .ensures)
-    (c .before .report-number .ensures) in (
-      c .before .before .before .before .place-of .ensures .0,
-      report-room (args .self) (args .x) (args .at) (sym e ∙ c .if1 .left),
-    )
+    (place-of .ensures)
+    (b .before .before .is-elsewhere .ensures)
+    (b .before .is-without-room .ensures)
+    (b .report-number .ensures) in
+    (place-of .ensures, report-room (args .self) (args .x) (args .at) (sym e ∙ c .if1 .left))
 
 returns-2 : tie.Need-returns-2
 returns-2 c =
-    let args = c .before .before .before .before .before .before .before .before .args in
+    let b = c .before .before in
+    let args = b .before .before .before .before .before .before .args in
     let e : _ =
     report-number-there (args .self) (args .x) (args .at) _ _ _ _
-    (c .before .before .before .before .before .place-of .ensures .0)
-    (c .before .before .before .before .is-elsewhere .ensures)
-    (c .before .before .before .is-without-room .ensures)
-    (c .before .before .report-number .ensures) in
+    (b .before .before .before .place-of .ensures)
+    (b .before .before .is-elsewhere .ensures)
+    (b .before .is-without-room .ensures)
+    (b .report-number .ensures) in
     call-accepted (args .self) _ (Call.report (args .x) (args .at)) (sym e ∙ c .before .if1 .left) (c .file .ensures)
 
 pub report-spec : {M : Type 1} → statement M

@@ -2,8 +2,9 @@
 use mathlib.Core.Path.{refl, ap}
 use borrow.Author.Needs.{needs}
 use Rattle.register.specs.Register.{Call}
+use Rattle.choosing.specs.declared.Marks.{Marks}
 use Rattle.table.specs.Calls.{numberOf, withHeld}
-use Rattle.table.proofs.Cases.{call-accepted}
+use Rattle.table.proofs.Laws.Cases.{call-accepted}
 use Rattle.table.proofs.Table.sweep.Statement.{statement}
 use Rattle.table.proofs.Table.sweep.Tie as tie
 
@@ -15,7 +16,7 @@ unfolding numberOf
 returns c =
     let args = c .before .before .args in
     call-accepted (args .self) _ (Call.sweep (args .at)) refl
-    (ap (withHeld (args .self)) (c .marks-at .ensures .0))
+    (ap (λ (m : Marks). withHeld (args .self) (m .fresh)) (c .marks-at .ensures))
 
 pub sweep-spec : {M : Type 1} → statement M
 sweep-spec = tie.close (tie.spec marks-at-requires returns)

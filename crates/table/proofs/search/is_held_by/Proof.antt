@@ -1,4 +1,4 @@
--- The word's lowest digit first, then the number.
+-- The word's lowest bit first, then the number.
 use mathlib.Core.Path.{refl}
 use borrow.Author.Tests.{eq-eqb, ne-eqb}
 use Rattle.table.proofs.search.is_held_by.Statement.{statement}

@@ -6,7 +6,7 @@ use native.Mathlib.Numerals.{add-one}
 use native.Mathlib.Omega.{arith}
 use borrow.Author.Needs.{needs}
 use Rattle.table.specs.Members.{placeOf}
-use Rattle.table.proofs.Places.{place-here, place-beyond, place-end, place-answered}
+use Rattle.table.proofs.Laws.Search.{place-here, place-beyond, place-end}
 use Rattle.table.proofs.search.place_of.Statement.{statement}
 use Rattle.table.proofs.search.place_of.Tie as tie
 
@@ -31,13 +31,13 @@ is-held-by-requires c κs = search needs
 
 returns : tie.Need-returns Inv-loop μ-loop
 returns c =
-    let start = c .before .before .before .before in
-    let loop = c .before .before .before .loop in
+    let around = c .before .before .before in
+    let start = around .before in
+    let loop = around .loop in
     let e : _ =
     place-here (start .args .source) (loop .word) (start .args .t2) (loop .i) (omega (arith, start .good))
     (sym (c .before .is-held-by .ensures) ∙ c .if1 .taken) in
-    place-answered (start .args .source) (start .args .held) (start .args .t2) (loop .i) 64 (omega (arith, start .good))
-    (omega (arith, e, loop .inv .1))
+    omega (arith, e, loop .inv .1)
 
 add-i : tie.Need-add-i Inv-loop μ-loop
 add-i c = omega arith
@@ -47,8 +47,9 @@ loop-less c = omega arith
 
 loop-again : tie.Need-loop-again Inv-loop μ-loop
 loop-again c =
-    let start = c .before .before .before .before in
-    let loop = c .before .before .before .loop in
+    let around = c .before .before .before in
+    let start = around .before in
+    let loop = around .loop in
     let e : _ =
     place-beyond (start .args .source) (loop .word) (start .args .t2) (loop .i) (omega (arith, start .good))
     (sym (c .before .is-held-by .ensures) ∙ c .if1 .left) in
@@ -61,8 +62,7 @@ returns-2 c =
     let start = c .before .before in
     let loop = c .before .loop in
     let e : _ = place-end (start .args .source) (loop .word) (start .args .t2) (loop .i) (omega (arith, start .good)) in
-    place-answered (start .args .source) (start .args .held) (start .args .t2) 64 64 (omega (arith, start .good))
-    (omega (arith, e, loop .inv .1))
+    omega (arith, e, loop .inv .1)
 
 pub place-of-spec : {M : Type 1} → statement M
 place-of-spec =

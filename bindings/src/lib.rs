@@ -1,0 +1,17 @@
+//! libprunepocket.a, as include/prunepocket.h declares it, behind safe
+//! functions. Each lends what the C function lends, so that a caller can see
+//! that a refusal leaves it alone.
+
+mod functions;
+mod messages;
+mod structs;
+mod table;
+
+pub use messages::{
+    count_items, item_field, read_items, write_report, write_settings, Refusal, ReportMessage,
+    SettingsMessage,
+};
+pub use structs::{
+    layout, Answer, Answered, DatagramAnswered, Followed, Origin, Place, Reading, Record,
+    ReportFields, Table, Target, PLACES,
+};

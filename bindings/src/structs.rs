@@ -1,0 +1,139 @@
+//! The structs of include/prunepocket.h: in its order, under its names without
+//! the prefix, with its fields. `tools/test-layout` holds them against it.
+
+use std::mem::{align_of, offset_of, size_of};
+
+/// Places in a table.
+pub const PLACES: usize = 64;
+
+/// Declares each struct in C's layout, and the lines of `layout`.
+macro_rules! c_structs {
+    ($(
+        $(#[$note:meta])*
+        pub struct $name:ident {
+            $($(#[$field_note:meta])* pub $field:ident: $type:ty,)*
+        }
+    )*) => {
+        $(
+            $(#[$note])*
+            #[repr(C)]
+            #[derive(Clone, Copy, Debug, PartialEq, Eq)]
+            pub struct $name {
+                $($(#[$field_note])* pub $field: $type,)*
+            }
+        )*
+
+        /// For each struct a line with its size and alignment, then one for
+        /// each of its fields with offset and size.
+        pub fn layout() -> Vec<String> {
+            let mut lines = Vec::new();
+            $(
+                let (size, align) = (size_of::<$name>(), align_of::<$name>());
+                lines.push(format!("{} {size} {align}", stringify!($name)));
+                $(
+                    let (offset, size) = (offset_of!($name, $field), size_of::<$type>());
+                    let field = concat!(stringify!($name), ".", stringify!($field));
+                    lines.push(format!("{field} {offset} {size}"));
+                )*
+            )*
+            lines
+        }
+    };
+}
+
+c_structs! {
+    /// What a reader or writer answers.
+    pub struct Answer {
+        pub number: u64,
+        pub place: u64,
+    }
+
+    /// An address of sixteen bytes and a port.
+    #[derive(Default)]
+    pub struct Origin {
+        pub address: [u8; 16],
+        pub port: u16,
+    }
+
+    /// A report's fields but its sender.
+    #[derive(Default)]
+    pub struct ReportFields {
+        pub received: u64,
+        pub group: u32,
+        pub media: u32,
+        pub rtp: u32,
+        pub presented: u32,
+        pub payload_type: u8,
+        pub p: u8,
+    }
+
+    /// The source number, the origin and the report of a member.
+    #[derive(Default)]
+    pub struct Record {
+        pub source: u32,
+        pub origin: Origin,
+        pub report: ReportFields,
+    }
+
+    /// The sender's reading: NTP time N and RTP time R.
+    #[derive(Default)]
+    pub struct Reading {
+        pub ntp: u64,
+        pub rtp: u32,
+    }
+
+    /// The member to follow.
+    #[derive(Default)]
+    pub struct Target {
+        pub source: u32,
+        pub group: u32,
+        pub media: u32,
+        pub received: u64,
+        pub rtp: u32,
+        /// Expanded, or 0 in arrival mode.
+        pub presented: u64,
+        pub counted: u32,
+    }
+
+    /// A member table. Its fields are its own: a host does not look at them.
+    pub struct Table {
+        pub group: u32,
+        pub media: u32,
+        pub rate: u32,
+        /// Marks the places held, from the lowest bit.
+        pub held: u64,
+        pub members: [Record; PLACES],
+    }
+
+    /// What opening, a report, a farewell and a sweep answer.
+    pub struct Answered {
+        pub number: u64,
+        /// The table afterwards.
+        pub table: Table,
+    }
+
+    /// What taking a whole datagram answers.
+    pub struct DatagramAnswered {
+        pub number: u64,
+        pub place: u64,
+        pub count: u64,
+        /// The table afterwards.
+        pub table: Table,
+    }
+
+    /// The member where `held` is 1; a record of zeros where it is 0.
+    #[derive(Default)]
+    pub struct Place {
+        pub held: u32,
+        pub member: Record,
+    }
+
+    /// What choosing answers.
+    pub struct Followed {
+        pub number: u64,
+        /// Zeros beside a refusal.
+        pub target: Target,
+        /// The table as it was.
+        pub table: Table,
+    }
+}

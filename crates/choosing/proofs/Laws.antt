@@ -1,0 +1,4 @@
+pub mod Marked
+pub mod Latest
+pub mod Candidates
+pub mod Biased

@@ -1,0 +1,63 @@
+-- The row at the latest's place, with the word's ones as the count.
+use native.Mathlib.Omega.{arith}
+use borrow.Author.Needs.{needs}
+use Rattle.places.specs.Places.{heldIn}
+use Rattle.choosing.specs.Marked.{rowsAt}
+use Rattle.choosing.specs.Lateness.{biasedLate}
+use Rattle.choosing.proofs.Laws.Candidates.{latestTarget-none, latestTarget-one}
+use Rattle.choosing.proofs.choice_in.Statement.{statement}
+use Rattle.choosing.proofs.choice_in.Tie as tie
+
+latest-place-requires : tie.Need-latest-place-requires
+latest-place-requires c κs = search needs
+
+returns : tie.Need-returns
+returns c =
+    let after = c .before in
+    let x = after .before .args in
+    let latest-place = after .latest-place in
+    latestTarget-none (biasedLate (x .rate) (x .at)) (heldIn 64 (x .word)) (x .t2)
+    (rowsAt (x .word) (x .t2))
+    (latest-place .result)
+    (latest-place .ensures (heldIn 64 (x .word)))
+    (omega arith)
+
+mul-target-of : tie.Need-mul-target-of
+mul-target-of c = search needs
+
+array-copy-out-target-of : tie.Need-array-copy-out-target-of
+array-copy-out-target-of c = search needs
+
+count-held-requires : tie.Need-count-held-requires
+count-held-requires c κs = search needs
+
+target-of-requires : tie.Need-target-of-requires
+target-of-requires c κs = search needs
+
+returns-2 : tie.Need-returns-2
+returns-2 c =
+    let after = c .before .before .before .before in
+    let x = after .before .args in
+    let latest-place = after .latest-place in
+    let count-held = c .before .count-held in
+    latestTarget-one (biasedLate (x .rate) (x .at)) (heldIn 64 (x .word)) (x .t2)
+    (rowsAt (x .word) (x .t2))
+    (latest-place .result)
+    (latest-place .ensures (heldIn 64 (x .word)))
+    (omega arith)
+    (c .target-of .result)
+    (count-held .result)
+    (c .target-of .ensures)
+    (count-held .ensures)
+
+pub choice-in-spec : {M : Type 1} → statement M
+choice-in-spec =
+    tie.close
+    (tie.spec
+    latest-place-requires
+    returns
+    mul-target-of
+    array-copy-out-target-of
+    count-held-requires
+    target-of-requires
+    returns-2)

@@ -1,0 +1,4 @@
+pub mod Walk
+pub mod Datagram
+pub mod Answers
+pub mod Counting

@@ -1,0 +1,101 @@
+-- What the loops over blocks and packets keep: the count that is left to answer never changes.
+use Prim.Native.Nat.{ℕ, _+_, _*_, _≤_, _<_}
+use mathlib.Core.Path.{_≡_, sym, ap, _∙_}
+use mathlib.Core.List.{List}
+use lib.ListN.{length}
+use native.Mathlib.Omega.{arith}
+use Rattle.idms.specs.declared.Placed.{Placed}
+use Rattle.packet.specs.declared.header.Head.{Head}
+use Rattle.packet.specs.declared.block.Block.{Block}
+use Rattle.packet.specs.Checks.{refused}
+use Rattle.packet.specs.Packet.{size}
+use Rattle.packet.specs.Report.{blockSize, blockCheck, blockItems}
+use Rattle.packet.specs.Answers.{headOf, blockIs}
+use Rattle.packet.proofs.Laws.Blocks.{met-report, met-skipped, met-refused, items-none, items-one}
+use Rattle.datagram.specs.declared.Count.{Count}
+use Rattle.datagram.specs.Datagram.{packetCheck, packetItems}
+use Rattle.datagram.specs.Answers.{refusal, packetCount}
+use Rattle.datagram.proofs.Laws.Walk.{tally, tally-refused, tally-part, count-items}
+use Rattle.datagram.proofs.Laws.Datagram.{packets-roomy}
+
+-- ---- blocks
+
+-- the answer at a block up to a stop, with n items counted before it
+abbrev pub blocksLeft : List ℕ → ℕ → ℕ → ℕ → ℕ → Count
+blocksLeft d sender stop n at = tally (blockCheck d stop) (blockItems d sender) (blockSize d) stop n at
+
+-- a block of some bytes was counted
+pub record BlockCounted (d : List ℕ) (sender stop n at items bytes : ℕ) : Type 0 where
+  pub inside : at + bytes ≤ stop
+  pub whole : 4 ≤ bytes
+  pub rest : blocksLeft d sender stop n at ≡ blocksLeft d sender stop (n + items) (at + bytes)
+
+module _ (d : List ℕ) (sender stop n at : ℕ) (here : at < stop) where
+  pub block-refused :
+      (number : ℕ) → blockIs d stop at ≡ Block.Refused number
+      → blocksLeft d sender stop n at ≡ Count.Refused (refusal number at)
+  block-refused number e =
+      tally-refused (blockCheck d stop) (blockItems d sender) (blockSize d) stop (λ k. omega arith) n at number at here
+      (met-refused d stop at number e)
+
+  pub report-counted : blockIs d stop at ≡ Block.Report → BlockCounted d sender stop n at 1 32
+  report-counted e =
+      let m : _ = met-report d stop at e in
+      record {
+        inside = m .0 .inside;
+        whole = omega arith;
+        rest =
+            tally-part (blockCheck d stop) (blockItems d sender) (blockSize d) stop (λ k. omega arith) n at 1 32 here
+            (m .0 .check)
+            (sym (ap (λ (l : List Placed). length l) (items-one d sender at (m .1))))
+            (m .0 .size);
+      }
+
+  pub skipped-counted : (bytes : ℕ) → blockIs d stop at ≡ Block.Skipped bytes → BlockCounted d sender stop n at 0 bytes
+  skipped-counted bytes e =
+      let m : _ = met-skipped d stop at bytes e in
+      record {
+        inside = m .0 .inside;
+        whole = omega (arith, m .0 .size);
+        rest =
+            tally-part (blockCheck d stop) (blockItems d sender) (blockSize d) stop (λ k. omega arith) n at 0 bytes here
+            (m .0 .check)
+            (sym (ap (λ (l : List Placed). length l) (items-none d sender at (m .1))))
+            (m .0 .size);
+      }
+
+-- ---- packets
+
+-- the answer at a packet, with n items counted before it
+abbrev pub packetsLeft : List ℕ → ℕ → ℕ → Count
+packetsLeft d n p = tally (packetCheck d) (packetItems d) (size d) (length d) n p
+
+pub record PacketCounted (d : List ℕ) (n p items bytes : ℕ) : Type 0 where
+  pub inside : p + bytes ≤ length d
+  pub whole : 4 ≤ bytes
+  pub few : 4 * items ≤ bytes
+  pub rest : packetsLeft d n p ≡ packetsLeft d (n + items) (p + bytes)
+
+pub left-refused :
+    (d : List ℕ) (n p number place : ℕ) → p < length d → packetCheck d p ≡ refused number place
+    → packetsLeft d n p ≡ Count.Refused (refusal number place)
+left-refused d n p number place here e =
+    tally-refused (packetCheck d) (packetItems d) (size d) (length d) (λ k. omega arith) n p number place here e
+
+pub packet-counted :
+    (d : List ℕ) (n p items : ℕ) (h : Head) → p < length d → h ≡ headOf d p → packetCount d p ≡ Count.Items items
+    → PacketCounted d n p items (h .bytes)
+packet-counted d n p items h here head e =
+    let m : _ = count-items (packetCheck d p) (length (packetItems d p)) items e in
+    let room : _ = packets-roomy d p here (m .0) in
+    let bytes : h .bytes ≡ size d p = ap (λ (x : Head). x .bytes) head in
+    record {
+      inside = omega (arith, room .0, bytes);
+      whole = omega (arith, bytes);
+      few = omega (arith, room .1, m .1, bytes);
+      rest =
+          tally-part (packetCheck d) (packetItems d) (size d) (length d) (λ k. omega arith) n p items (h .bytes) here
+          (m .0)
+          (m .1)
+          bytes;
+    }

@@ -1,0 +1,35 @@
+-- How many items there are, or the refusal.
+use Prim.Native.Nat.{ℕ, _+_}
+use mathlib.Core.List.{List}
+use lib.ListN.{length}
+use Rattle.idms.specs.declared.Refusal.{Refusal}
+use Rattle.packet.specs.Checks.{Check, passed, refused}
+use Rattle.packet.specs.Bytes.{be32}
+use Rattle.datagram.specs.declared.Count.{Count}
+use Rattle.datagram.specs.Datagram.{blocksCheck, blocksItems, packetCheck, packetItems}
+use Rattle.datagram.specs.Datagram.{packetsCheck, packetsItems, datagramCheck, datagramItems}
+
+abbrev pub refusal : ℕ → ℕ → Refusal
+refusal number place = record { number = number; place = place }
+
+-- how many items, where no check refused
+abbrev pub countUnless : Check → ℕ → Count
+countUnless passed items = Count.Items items
+countUnless (refused number place) items = Count.Refused (refusal number place)
+
+-- of the blocks of the XR packet at p, whose content has a length
+abbrev pub blocksCount : List ℕ → ℕ → ℕ → Count
+blocksCount d p content =
+    countUnless (blocksCheck d (p + content) (p + 8)) (length (blocksItems d (be32 d (p + 4)) (p + content) (p + 8)))
+
+-- of the packet at p
+abbrev pub packetCount : List ℕ → ℕ → Count
+packetCount d p = countUnless (packetCheck d p) (length (packetItems d p))
+
+-- of the packets from p on
+abbrev pub packetsCount : List ℕ → ℕ → Count
+packetsCount d p = countUnless (packetsCheck d p) (length (packetsItems d p))
+
+-- how many items a datagram has, or its refusal
+unfoldable pub itemCount : List ℕ → Count
+itemCount d = countUnless (datagramCheck d) (length (datagramItems d))

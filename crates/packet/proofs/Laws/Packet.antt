@@ -1,0 +1,153 @@
+-- Laws of a packet's header: what each check says once it has passed, and the answer where one has not.
+use Prim.Native.Nat.{ℕ, _+_, _-_, _%_, _≤_, _<_}
+use mathlib.Core.Path.{_≡_, refl, sym, ap, _∙_}
+use mathlib.Core.List.{List}
+use mathlib.Core.Bool.{Bool, true, false, not, _&&_, _||_}
+use lib.ListN.{length}
+use lib.Dec.{ltb, eqb}
+use native.Mathlib.Omega.{arith}
+use borrow.Author.Tests.{eq-eqb, ne-eqb, lt-ltb, le-ltb, ltb-false, eqb-true, eqb-false, not-false}
+use Rattle.refusals.specs.Refusals.{badPacket, badPadding, badFirst, shortContent}
+use Rattle.packet.specs.declared.header.Head.{Head}
+use Rattle.packet.specs.declared.header.Entry.{Entry}
+use Rattle.packet.specs.Checks.{Check, passed, refused}
+use Rattle.packet.specs.Packet.{version, padded, kind, size, padding, paddingIsBad, content, contentIsShort, opens, headCheck}
+use Rattle.packet.specs.Answers.{headOf, headUnless, entry}
+use Rattle.packet.proofs.Laws.Bools.{or-false}
+use Rattle.packet.proofs.Laws.Checks.{check-passes, Refuses, passed-refuses, refuseIf-refuses}
+
+-- ---- content
+
+pub content-padded : (d : List ℕ) (p : ℕ) → padded d p ≡ true → content d p ≡ size d p - padding d p
+unfolding content
+content-padded d p e = rw e
+
+pub content-bare : (d : List ℕ) (p : ℕ) → padded d p ≡ false → content d p ≡ size d p
+unfolding content
+content-bare d p e = rw e
+
+pub content-inside : (d : List ℕ) (p : ℕ) → content d p ≤ size d p
+content-inside d p = go (padded d p) refl
+  where
+    go : (t : Bool) → padded d p ≡ t → content d p ≤ size d p
+    go true e = rw (content-padded d p e) (omega arith)
+    go false e = rw (content-bare d p e) (omega arith)
+
+-- ---- paddingIsBad
+
+pub unpadded-is-fine : (d : List ℕ) (p : ℕ) → padded d p ≡ false → paddingIsBad d p ≡ false
+unfolding paddingIsBad
+unpadded-is-fine d p e = rw e
+
+pub padded-first : (d : List ℕ) (p : ℕ) → padded d p ≡ true → p ≡ 0 → paddingIsBad d p ≡ true
+unfolding paddingIsBad
+padded-first d p e z = rw (e, eq-eqb p 0 z)
+
+pub padded-middle : (d : List ℕ) (p : ℕ) → padded d p ≡ true → (p ≡ 0 → ⊥) → (p + size d p ≡ length d → ⊥) → paddingIsBad d p ≡ true
+unfolding paddingIsBad
+padded-middle d p e z m = rw (e, ne-eqb p 0 z, ne-eqb (p + size d p) (length d) m)
+
+pub padded-last :
+    (d : List ℕ) (p : ℕ) → padded d p ≡ true → (p ≡ 0 → ⊥) → p + size d p ≡ length d
+    → paddingIsBad d p ≡ (eqb (padding d p) 0 || not (eqb (padding d p % 4) 0) || ltb (size d p - 4) (padding d p))
+unfolding paddingIsBad
+padded-last d p e z m = rw (e, ne-eqb p 0 z, eq-eqb (p + size d p) (length d) m)
+
+-- ---- headCheck, once it has passed
+
+-- what is read of the packet lies in the datagram
+pub record Readable (d : List ℕ) (p : ℕ) : Type 0 where
+  pub fits : p + size d p ≤ length d
+  pub inside : content d p ≤ size d p
+  pub enough : contentIsShort (kind d p) (content d p) ≡ false
+
+pub head-version : (d : List ℕ) (p : ℕ) → headCheck d p ≡ passed → version d p ≡ 2
+unfolding headCheck
+head-version d p h =
+    eqb-true (version d p) 2 (not-false (eqb (version d p) 2) (check-passes (not (eqb (version d p) 2)) _ _ _ h .0))
+
+pub head-passed : (d : List ℕ) (p : ℕ) → headCheck d p ≡ passed → Readable d p
+unfolding headCheck
+head-passed d p h =
+    let a : _ = check-passes (not (eqb (version d p) 2)) _ _ _ h in
+    let b : _ = check-passes (ltb (length d) (p + size d p)) _ _ _ (a .1) in
+    let e : _ = check-passes (paddingIsBad d p) _ _ _ (b .1) in
+    let f : _ = check-passes (eqb p 0 && not (opens (kind d p))) _ _ _ (e .1) in
+    let g : _ = check-passes (contentIsShort (kind d p) (content d p)) _ _ _ (f .1) in
+    record {
+      fits = ltb-false (length d) (p + size d p) (b .0);
+      inside = content-inside d p;
+      enough = g .0;
+    }
+
+-- what holds of each number with the packet's place holds of every refusal
+pub head-refuses :
+    (P : ℕ → ℕ → Type 0) (d : List ℕ) (p : ℕ) → P badPacket p → P badPadding p → P badFirst p → P shortContent p
+    → Refuses P (headCheck d p)
+unfolding headCheck
+head-refuses P d p two three four five =
+    refuseIf-refuses P (not (eqb (version d p) 2)) _ p _ two
+    (refuseIf-refuses P (ltb (length d) (p + size d p)) _ p _ two
+    (refuseIf-refuses P (paddingIsBad d p) _ p _ three
+    (refuseIf-refuses P (eqb p 0 && not (opens (kind d p))) _ p _ four
+    (refuseIf-refuses P (contentIsShort (kind d p) (content d p)) _ p _ five (passed-refuses P)))))
+
+-- ---- entry, by the first check that applies
+
+module _ (d : List ℕ) (p : ℕ) where
+  pub entry-version : (version d p ≡ 2 → ⊥) → entry d p ≡ Entry.Refused badPacket
+  unfolding entry headCheck
+  entry-version v = rw (ne-eqb (version d p) 2 v, entry, headCheck)
+
+  module _ (v : version d p ≡ 2) where
+    pub entry-long : length d < p + size d p → entry d p ≡ Entry.Refused badPacket
+    unfolding entry headCheck
+    entry-long l = rw (eq-eqb (version d p) 2 v, lt-ltb (length d) (p + size d p) l)
+
+    module _ (l : p + size d p ≤ length d) where
+      pub entry-padding : paddingIsBad d p ≡ true → entry d p ≡ Entry.Refused badPadding
+      unfolding entry headCheck
+      entry-padding b = rw (eq-eqb (version d p) 2 v, le-ltb (length d) (p + size d p) l, b)
+
+      module _ (b : paddingIsBad d p ≡ false) where
+        pub entry-first : (eqb p 0 && not (opens (kind d p))) ≡ true → entry d p ≡ Entry.Refused badFirst
+        unfolding entry headCheck
+        entry-first f = rw (eq-eqb (version d p) 2 v, le-ltb (length d) (p + size d p) l, b, f)
+
+        module _ (f : (eqb p 0 && not (opens (kind d p))) ≡ false) where
+          pub entry-short : contentIsShort (kind d p) (content d p) ≡ true → entry d p ≡ Entry.Refused shortContent
+          unfolding entry headCheck
+          entry-short s = rw (eq-eqb (version d p) 2 v, le-ltb (length d) (p + size d p) l, b, f, s)
+
+          pub entry-head : contentIsShort (kind d p) (content d p) ≡ false → entry d p ≡ Entry.Head (headOf d p)
+          unfolding entry headCheck
+          entry-head s = rw (eq-eqb (version d p) 2 v, le-ltb (length d) (p + size d p) l, b, f, s)
+
+  -- a byte past the end reads as 0, and no packet is shorter than a word
+  pub entry-outside : length d - p < 4 → entry d p ≡ Entry.Refused badPacket
+  entry-outside h = go (eqb (version d p) 2) refl
+    where
+      go : (t : Bool) → eqb (version d p) 2 ≡ t → entry d p ≡ Entry.Refused badPacket
+      go true e = entry-long (eqb-true (version d p) 2 e) (omega arith)
+      go false e = entry-version (eqb-false (version d p) 2 e)
+
+-- ---- entry, the other way: what an answer says of the checks
+
+headUnless-head : (k : Check) (x h : Head) → headUnless k x ≡ Entry.Head h → (k ≡ passed) × (h ≡ x)
+headUnless-head passed x h e = (refl, cc)
+headUnless-head (refused number place) x h e = let z : _≡_ {A = ℕ} 0 1 = cc in absurd (omega arith)
+
+headUnless-refused : (k : Check) (x : Head) (n : ℕ) → headUnless k x ≡ Entry.Refused n → (q : ℕ) × (k ≡ refused n q)
+headUnless-refused passed x n e = let z : _≡_ {A = ℕ} 0 1 = cc in absurd (omega arith)
+headUnless-refused (refused number place) x n e = (place, cc)
+
+pub entry-passed :
+    (d : List ℕ) (p : ℕ) (h : Head) → entry d p ≡ Entry.Head h → (headCheck d p ≡ passed) × (h ≡ headOf d p)
+unfolding entry
+entry-passed d p h e = headUnless-head (headCheck d p) (headOf d p) h e
+
+pub entry-refused : (d : List ℕ) (p n : ℕ) → entry d p ≡ Entry.Refused n → headCheck d p ≡ refused n p
+unfolding entry
+entry-refused d p n e =
+    let r : _ = headUnless-refused (headCheck d p) (headOf d p) n e in
+    r .1 ∙ ap (refused n) (head-refuses (λ (number place : ℕ). place ≡ p) d p refl refl refl refl n (r .0) (r .1))

@@ -1,0 +1,145 @@
+// A packet's header: checks 2, 3, 4 and 5.
+use crate::bytes::read16;
+use crate::bytes::saturating_sub;
+use crate::bytes::wide;
+use crate::kind::PacketType;
+use crate::kind::is_opening;
+use crate::kind::is_short;
+use crate::kind::kind_of;
+use refusals::BAD_FIRST;
+use refusals::BAD_PACKET;
+use refusals::BAD_PADDING;
+use refusals::SHORT_CONTENT;
+ghost use mathlib.Core.Path.{_≡_};
+ghost use mathlib.Core.Bool.{not, _&&_, _||_};
+ghost use Prim.Native.Nat.{_+_, _-_, _/_, _%_, _≤_};
+ghost use lib.ListN.{length};
+ghost use lib.Dec.{eqb, ltb};
+ghost use Rattle.packet.specs.Packet.{size, paddingIsBad, content, kindOf, opens};
+ghost use Rattle.packet.specs.Answers.{headOf, entry};
+
+// What later steps use of a header. `content` counts the header and not the padding.
+pub struct Head {
+    pub kind: PacketType,
+    pub count: usize,
+    pub bytes: usize,
+    pub content: usize,
+}
+
+// A header that passed checks 2 to 5, or the number of the first that it did not.
+pub enum Entry {
+    Head(Head),
+    Refused(u64),
+}
+
+// The bytes of the packet at p.
+pub(crate) fn packet_size(d: &[u8], p: usize) -> usize
+    requires { ⌜ p + 4 ≤ length (now d) ⌝ }
+    ensures { λ r. ⌜ (r ≡ size (now (d .entry)) p) × (r ≤ 262144) ⌝ }
+{
+    4 * (read16(d, p + 2) + 1)
+}
+
+// Whether P is set.
+fn is_padded(first: u8) -> bool
+    ensures { λ r. ⌜ r ≡ eqb (first / 32 % 2) 1 ⌝ }
+{
+    first / 32 % 2 == 1
+}
+
+// Check 3 for the packet at p.
+fn is_badly_padded(d: &[u8], p: usize, bytes: usize) -> bool
+    requires { ⌜ (bytes ≡ size (now d) p) × (p + bytes ≤ length (now d)) ⌝ }
+    ensures { λ r. ⌜ r ≡ paddingIsBad (now (d .entry)) p ⌝ }
+{
+    if !is_padded(d[p]) {
+        return false;
+    }
+    if p == 0 {
+        return true;
+    }
+    if p + bytes != d.len() {
+        return true;
+    }
+    is_bad_count(d[p + bytes - 1], bytes)
+}
+
+// A count of padding bytes is a non-zero multiple of 4 that leaves the packet its first word.
+fn is_bad_count(count: u8, bytes: usize) -> bool
+    requires { ⌜ 4 ≤ bytes ⌝ }
+    ensures { λ r. ⌜ r ≡ (eqb count 0 || not (eqb (count % 4) 0) || ltb (bytes - 4) count) ⌝ }
+{
+    if count == 0 {
+        return true;
+    }
+    if count % 4 != 0 {
+        return true;
+    }
+    bytes - 4 < count as usize
+}
+
+// The packet's bytes without its padding.
+fn unpadded(d: &[u8], p: usize, bytes: usize) -> usize
+    requires { ⌜ (bytes ≡ size (now d) p) × (p + bytes ≤ length (now d)) ⌝ }
+    ensures { λ r. ⌜ r ≡ content (now (d .entry)) p ⌝ }
+{
+    if is_padded(d[p]) {
+        return saturating_sub(bytes, wide(d[p + bytes - 1]));
+    }
+    bytes
+}
+
+// Check 4: the first packet is an SR or an RR.
+fn is_bad_first(p: usize, number: u8, count: u8) -> bool
+    ensures { λ r. ⌜ r ≡ (eqb p 0 && not (opens (kindOf number count))) ⌝ }
+{
+    if p != 0 {
+        return false;
+    }
+    let kind = kind_of(number, count);
+    !is_opening(kind)
+}
+
+// The header of the packet at p, which lies in the datagram.
+pub(crate) fn known_head(d: &[u8], p: usize, bytes: usize) -> Head
+    requires { ⌜ (bytes ≡ size (now d) p) × (p + bytes ≤ length (now d)) ⌝ }
+    ensures { λ r. ⌜ r ≡ headOf (now (d .entry)) p ⌝ }
+{
+    let count = d[p] % 32;
+    Head {
+        kind: kind_of(d[p + 1], count),
+        count: wide(count),
+        bytes,
+        content: unpadded(d, p, bytes),
+    }
+}
+
+// The header of the packet at p, once checks 2, 3, 4 and 5 have passed.
+pub fn head_at(d: &[u8], p: usize) -> Entry
+    ensures { λ r. ⌜ r ≡ entry (now (d .entry)) p ⌝ }
+{
+    if saturating_sub(d.len(), p) < 4 {
+        return Entry::Refused(BAD_PACKET);
+    }
+    if d[p] / 64 != 2 {
+        return Entry::Refused(BAD_PACKET);
+    }
+    let bytes = packet_size(d, p);
+    if d.len() < p + bytes {
+        return Entry::Refused(BAD_PACKET);
+    }
+    let padding = is_badly_padded(d, p, bytes);
+    let first = is_bad_first(p, d[p + 1], d[p] % 32);
+    if padding {
+        return Entry::Refused(BAD_PADDING);
+    }
+    if first {
+        return Entry::Refused(BAD_FIRST);
+    }
+    let h = known_head(d, p, bytes);
+    let kind = h.kind;
+    if is_short(kind, h.content) {
+        return Entry::Refused(SHORT_CONTENT);
+    }
+    Entry::Head(h)
+}

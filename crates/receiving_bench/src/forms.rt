@@ -1,0 +1,147 @@
+// The forms that a step can have, by number: the lines of the two tables below, in this order.
+use crate::lines::Line;
+use crate::lines::matched_among;
+use crate::print::print_line;
+
+pub(crate) const TABLE: usize = 0;
+
+pub(crate) const READING: usize = 1;
+
+pub(crate) const STREAM: usize = 2;
+
+pub(crate) const DATAGRAM: usize = 3;
+
+pub(crate) const OPEN: usize = 4;
+
+pub(crate) const REPORT: usize = 5;
+
+pub(crate) const FAREWELL: usize = 6;
+
+pub(crate) const SEND_REPORT: usize = 7;
+
+pub(crate) const SEND_FAREWELL: usize = 8;
+
+pub(crate) const FILL: usize = 9;
+
+pub(crate) const SWEEP: usize = 10;
+
+pub(crate) const TAKE: usize = 11;
+
+pub(crate) const TAKE_NONE: usize = 12;
+
+pub(crate) const TAKE_REFUSED: usize = 13;
+
+pub(crate) const ITEMS: usize = 14;
+
+pub(crate) const ITEMS_REFUSED: usize = 15;
+
+pub(crate) const ITEM_REPORT: usize = 16;
+
+pub(crate) const ITEM_SETTINGS: usize = 17;
+
+pub(crate) const ITEM_FAREWELL: usize = 18;
+
+pub(crate) const ITEM_REFUSED: usize = 19;
+
+pub(crate) const CHOOSE: usize = 20;
+
+pub(crate) const CHOOSE_REFUSED: usize = 21;
+
+pub(crate) const LATENESS: usize = 22;
+
+pub(crate) const AGE: usize = 23;
+
+pub(crate) const DELAY: usize = 24;
+
+pub(crate) const MEMBERS: usize = 25;
+
+pub(crate) const PLACE: usize = 26;
+
+pub(crate) const PLACE_FREE: usize = 27;
+
+pub(crate) const UNCHANGED: usize = 28;
+
+pub(crate) const WRITE_REPORT: usize = 29;
+
+pub(crate) const WRITE_SETTINGS: usize = 30;
+
+// The form of a line that is no step, and of a step that has none of the forms.
+pub(crate) const PROSE: usize = 31;
+
+// The step at a place, with the answer that it expects. In a form # is a number, @ a time, % an origin, ? a report's
+// presented field, ! a target's presented time, & answers of calls, * words of hex; all else stands for itself.
+pub(crate) fn matched(s: &[u8], at: usize) -> Line {
+    matched_among(
+        b"table\n\
+          reading @ #\n\
+          stream # #\n\
+          datagram*\n\
+          open # # # = #\n\
+          report # % @ # ? = #\n\
+          farewell # % = #\n\
+          send report # % @ # ? = #\n\
+          send farewell # % = #\n\
+          fill # # = #\n\
+          sweep = #\n\
+          take % =&\n\
+          take % = none\n\
+          take % = refused # #\n\
+          items = #\n\
+          items = refused # #\n\
+          item # = report #\n\
+          item # = settings #\n\
+          item # = farewell #\n\
+          item # = refused # #\n\
+          choose = # @ # ! #\n\
+          choose = refused #\n\
+          lateness = @\n\
+          age = @\n\
+          delay = @\n\
+          members = #\n\
+          place # = # %\n\
+          place # = free\n\
+          unchanged\n\
+          write report =*\n\
+          write settings # =*\n",
+        s,
+        at,
+    )
+}
+
+// What came, as a sentence. $ and two characters stand for a value of the line: how it is printed, and which one.
+pub(crate) fn print_came(line: Line) {
+    print_line(
+        b"\n\
+          \n\
+          \n\
+          \n\
+          \x20 group $n0, media source $n1, rate $n2: $a3\n\
+          \x20 report of source $n0 from $o0: $a4\n\
+          \x20 farewell of source $n0 from $o0: $a1\n\
+          \x20 report of source $n0 from $o0: $a4\n\
+          \x20 farewell of source $n0 from $o0: $a1\n\
+          \x20 reports of sources $n0 to $n1: $a2\n\
+          \x20 sweep: $a0\n\
+          \x20 datagram from $o0: $l0\n\
+          \x20 datagram from $o0: no report and no farewell\n\
+          \x20 datagram from $o0: $a0, at byte $n1\n\
+          \x20 items: $n0\n\
+          \x20 items: $a0, at byte $n1\n\
+          \x20 item $n0: report of source $n1\n\
+          \x20 item $n0: settings of source $n1\n\
+          \x20 item $n0: farewell of source $n1\n\
+          \x20 item $n0: $a1, at byte $n2\n\
+          \x20 target: source $n0, received $t1, RTP $n2, $p3, $n4 counted\n\
+          \x20 target: $a0\n\
+          \x20 lateness of the target: $h0 x 2^32\n\
+          \x20 NTP age of the target: $t0\n\
+          \x20 delay of the target: $t0\n\
+          \x20 members: $n0\n\
+          \x20 place $n0: source $n1 of $o0\n\
+          \x20 place $n0: free\n\
+          \x20   members $u0, target $u1\n\
+          \x20 last report as written: $b2\n\
+          \x20 settings written from the target: $b2\n",
+        line,
+    );
+}

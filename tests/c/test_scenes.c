@@ -1,0 +1,586 @@
+/*
+ * Runs the scenes of the receiving bench's text on the archive, and holds every answer against the
+ * text's own. tests/README.md has the form of the text. A line not understood ends the test.
+ */
+#include "members.h"
+
+#define TEXT "crates/receiving_bench/stdin"
+
+#define MOST_WORDS 64
+#define MOST_CALLS 512
+
+/* The words of the step under way, behind its name, and those of the answer that it is due. */
+static char *asked[MOST_WORDS + 1];
+static char *due[MOST_WORDS + 1];
+
+/* What steps leave for the steps behind them. */
+static struct {
+    table_t table;
+    table_t before;     /* before the last call that could change it */
+    uint32_t stream[2]; /* group and media source of the reports */
+    reading_t reading;
+    record_t record; /* the last report */
+    uint8_t *datagram;
+    size_t length;
+    target_t target;
+} bench;
+
+static void not_understood(const char *word)
+{
+    printf("%s:%d: %s: not understood: %s\n", file, line, name, word == NULL ? "its end" : word);
+    exit(1);
+}
+
+/* ---- Words ----------------------------------------------------------------------------------- */
+
+/* Decimal, or hex behind 0x, up to an end and to the most that it may be. */
+static uint64_t number_before(const char *word, char end, uint64_t most)
+{
+    int is_hex = word != NULL && strncmp(word, "0x", 2) == 0;
+    const char *digits = is_hex ? word + 2 : word;
+    char *rest;
+    uint64_t number;
+
+    if (word == NULL || strspn(digits, "0123456789abcdefABCDEF") == 0)
+        not_understood(word);
+    number = strtoull(digits, &rest, is_hex ? 16 : 10);
+    if (*rest != end || number > most)
+        not_understood(word);
+    return number;
+}
+
+static uint32_t number(const char *word)
+{
+    return (uint32_t)number_before(word, '\0', UINT32_MAX);
+}
+
+/* Seconds, and units of 2^-32 s behind a plus. */
+static uint64_t time_of(const char *word)
+{
+    const char *plus = word == NULL ? NULL : strchr(word, '+');
+
+    if (plus == NULL)
+        return SECONDS(number(word));
+    return SECONDS(number_before(word, '+', UINT32_MAX)) + number(plus + 1);
+}
+
+static void put_hex(const char *digits, size_t count, uint8_t *bytes)
+{
+    for (size_t i = 0; i < count; i++) {
+        char pair[] = {'0', 'x', digits[2 * i], digits[2 * i + 1], '\0'};
+
+        bytes[i] = (uint8_t)number(pair);
+    }
+}
+
+/* Words of eight hex digits: how many bytes there are. */
+static size_t bytes_of(char **words, uint8_t bytes[4 * MOST_WORDS])
+{
+    size_t count = 0;
+
+    for (; words[count] != NULL; count++) {
+        if (strlen(words[count]) != 8)
+            not_understood(words[count]);
+        put_hex(words[count], 4, bytes + 4 * count);
+    }
+    return 4 * count;
+}
+
+/* An address, a colon and a port. */
+static origin_t origin_of(const char *word)
+{
+    origin_t origin = {{[10] = 0xFF, [11] = 0xFF}, 0};
+    const char *colon = word == NULL ? NULL : strchr(word, ':');
+
+    if (colon == NULL)
+        not_understood(word);
+    if (colon - word == 32)
+        put_hex(word, 16, origin.address);
+    for (size_t i = 12; i < 16 && colon - word != 32; i++) {
+        origin.address[i] = (uint8_t)number_before(word, i < 15 ? '.' : ':', 0xFF);
+        word = i < 15 ? strchr(word, '.') + 1 : word;
+    }
+    origin.port = (uint16_t)number_before(colon + 1, '\0', UINT16_MAX);
+    return origin;
+}
+
+static int is(const char *word, const char *expected)
+{
+    return word != NULL && strcmp(word, expected) == 0;
+}
+
+/* Source, origin, received, RTP and presented of a report. */
+static void read_report(void)
+{
+    int has_presented = !is(asked[4], "-");
+
+    bench.record.source = number(asked[0]);
+    bench.record.origin = origin_of(asked[1]);
+    bench.record.report = (struct prunepocket_report_fields){
+        .received = time_of(asked[2]),
+        .group = bench.stream[0],
+        .media = bench.stream[1],
+        .rtp = number(asked[3]),
+        .presented = has_presented ? number(asked[4]) : 0,
+        .payload_type = 33,
+        .p = has_presented,
+    };
+}
+
+/* ---- Answers --------------------------------------------------------------------------------- */
+
+/* There are so many words in the answer that is due. */
+static void due_words(size_t count)
+{
+    for (size_t i = 0; i < count; i++) {
+        if (due[i] == NULL)
+            not_understood(NULL);
+    }
+    if (due[count] != NULL)
+        not_understood(due[count]);
+}
+
+static void check_number(uint64_t got)
+{
+    due_words(1);
+    check_equal("number", got, number(due[0]));
+}
+
+static void check_time(uint64_t got)
+{
+    due_words(1);
+    check_equal("time", got, time_of(due[0]));
+}
+
+/* Whether the text has a refusal with its place, which is then the answer. */
+static int check_refused(struct prunepocket_answer got)
+{
+    int refused = is(due[0], "refused");
+
+    if (refused)
+        due_words(3);
+    check_answer("answer", got, refused ? number(due[1]) : 0, refused ? number(due[2]) : 0);
+    return refused;
+}
+
+static void check_bytes(const uint8_t *got, uint64_t length)
+{
+    uint8_t bytes[4 * MOST_WORDS];
+
+    check_equal("bytes", length, bytes_of(due, bytes));
+    check_true("the same bytes", memcmp(got, bytes, (size_t)length) == 0);
+}
+
+/* ---- Calls ----------------------------------------------------------------------------------- */
+
+static uint64_t open_table(uint32_t group, uint32_t media, uint32_t rate)
+{
+    answered_t answered = prunepocket_open(group, media, rate);
+
+    if (answered.number == PRUNEPOCKET_ACCEPTED) {
+        bench.table = answered.table;
+        bench.before = answered.table;
+        bench.stream[0] = group;
+        bench.stream[1] = media;
+    }
+    return answered.number;
+}
+
+static void check_call(answered_t answered)
+{
+    bench.before = bench.table;
+    bench.table = answered.table;
+    check_number(answered.number);
+}
+
+static datagram_answered_t take(const uint8_t *datagram, size_t length, origin_t origin,
+                                uint64_t numbers[MOST_CALLS])
+{
+    bench.before = bench.table;
+    return prunepocket_take_datagram(bench.table, datagram, length, origin, bench.reading, numbers,
+                                     MOST_CALLS);
+}
+
+/* Takes a message behind an RR in, which is one call: its number. */
+static uint64_t send_message(const uint8_t *message, size_t length, origin_t origin)
+{
+    uint8_t datagram[8 + PRUNEPOCKET_REPORT_BYTES] = {0x80, 0xC9, 0, 1, 0, 0, 0, 1};
+    uint64_t numbers[MOST_CALLS] = {0};
+    datagram_answered_t taken;
+
+    memcpy(datagram + 8, message, length);
+    taken = take(datagram, 8 + length, origin, numbers);
+    bench.table = taken.table;
+    check_equal("the datagram's number", taken.number, PRUNEPOCKET_ACCEPTED);
+    check_equal("calls", taken.count, 1);
+    return numbers[0];
+}
+
+/* Writes the last report: how many bytes it has. */
+static uint64_t write_report(uint8_t buffer[PRUNEPOCKET_REPORT_BYTES])
+{
+    struct prunepocket_report_fields report = bench.record.report;
+    uint64_t written = 0;
+
+    check_answer("write_report",
+                 prunepocket_write_report(bench.record.source, report.payload_type, report.p,
+                                          report.group, report.media, report.received, report.rtp,
+                                          report.presented, buffer, PRUNEPOCKET_REPORT_BYTES,
+                                          &written),
+                 0, 0);
+    return written;
+}
+
+static uint64_t send_report(void)
+{
+    uint8_t message[PRUNEPOCKET_REPORT_BYTES];
+    size_t length = (size_t)write_report(message);
+
+    return send_message(message, length, bench.record.origin);
+}
+
+/* ---- Steps ----------------------------------------------------------------------------------- */
+
+static void step_table(void)
+{
+    due_words(0);
+    check_equal("open", open_table(42, 7, 90000), PRUNEPOCKET_ACCEPTED);
+    bench.reading = (reading_t){SECONDS(1000), 9000000};
+}
+
+static void step_open(void)
+{
+    check_number(open_table(number(asked[0]), number(asked[1]), number(asked[2])));
+}
+
+static void step_reading(void)
+{
+    due_words(0);
+    bench.reading = (reading_t){time_of(asked[0]), number(asked[1])};
+}
+
+static void step_stream(void)
+{
+    due_words(0);
+    bench.stream[0] = number(asked[0]);
+    bench.stream[1] = number(asked[1]);
+}
+
+/* The datagram stands at its exact length on the heap, for valgrind. */
+static void step_datagram(void)
+{
+    uint8_t bytes[4 * MOST_WORDS];
+
+    due_words(0);
+    bench.length = bytes_of(asked, bytes);
+    free(bench.datagram);
+    bench.datagram = allocate(bench.length);
+    memcpy(bench.datagram, bytes, bench.length);
+}
+
+static void step_report(void)
+{
+    read_report();
+    check_call(prunepocket_report(bench.table, bench.record, bench.reading));
+}
+
+static void step_farewell(void)
+{
+    check_call(prunepocket_farewell(bench.table, number(asked[0]), origin_of(asked[1])));
+}
+
+static void step_sweep(void)
+{
+    check_call(prunepocket_sweep(bench.table, bench.reading));
+}
+
+static void step_send_report(void)
+{
+    read_report();
+    check_number(send_report());
+}
+
+static void step_send_farewell(void)
+{
+    uint32_t source = number(asked[0]);
+    uint8_t bye[8] = {0x81, 0xCB, 0, 1};
+
+    for (int i = 0; i < 4; i++)
+        bye[4 + i] = (uint8_t)(source >> (24 - 8 * i));
+    check_number(send_message(bye, sizeof bye, origin_of(asked[1])));
+}
+
+static void step_fill(void)
+{
+    static char fields[][16] = {"999", "8910000", "0x03E78000"};
+    table_t before = bench.table;
+    uint32_t last = number(asked[1]);
+    uint64_t answer = 0;
+
+    for (uint32_t source = number(asked[0]); source <= last; source++) {
+        char words[2][40];
+        uint64_t got;
+
+        snprintf(words[0], sizeof words[0], "%" PRIu32, source);
+        snprintf(words[1], sizeof words[1], "192.0.2.1:%" PRIu32, 5000 + source);
+        for (size_t i = 0; i < 5; i++)
+            asked[i] = i < 2 ? words[i] : fields[i - 2];
+        read_report();
+        got = send_report();
+        answer = got == 0 ? answer : got;
+    }
+    bench.before = before;
+    check_number(answer);
+}
+
+static void step_take(void)
+{
+    uint64_t numbers[MOST_CALLS];
+    datagram_answered_t taken = take(bench.datagram, bench.length, origin_of(asked[0]), numbers);
+    size_t count = (size_t)taken.count;
+
+    bench.table = taken.table;
+    if (check_refused((struct prunepocket_answer){taken.number, taken.place})) {
+        check_equal("calls", count, 0);
+        return;
+    }
+    due_words(count > 0 ? count : 1);
+    if (count == 0)
+        check_true("no calls", is(due[0], "none"));
+    for (size_t i = 0; i < count; i++)
+        check_equal("call", numbers[i], number(due[i]));
+}
+
+static void step_items(void)
+{
+    uint64_t count = 0;
+
+    if (!check_refused(prunepocket_count_items(bench.datagram, bench.length, &count)))
+        check_number(count);
+}
+
+static void step_item(void)
+{
+    static const char *const kinds[] = {"", "report", "settings", "farewell"};
+    uint32_t index = number(asked[0]);
+    uint64_t kind = 0;
+    uint64_t source = 0;
+
+    if (check_refused(prunepocket_item_field(bench.datagram, bench.length, index,
+                                             PRUNEPOCKET_FIELD_KIND, &kind)))
+        return;
+    prunepocket_item_field(bench.datagram, bench.length, index, PRUNEPOCKET_FIELD_SOURCE, &source);
+    due_words(2);
+    check_true("kind", kind < 4 && is(due[0], kinds[kind]));
+    check_equal("source", source, number(due[1]));
+}
+
+static void step_choose(void)
+{
+    followed_t followed = prunepocket_choose(bench.table, bench.reading);
+    int refused = is(due[0], "refused");
+
+    due_words(refused ? 2 : 5);
+    check_equal("number", followed.number, refused ? number(due[1]) : 0);
+    bench.target = followed.target;
+    if (refused)
+        return;
+    check_target(followed.target,
+                 (target_t){
+                     .source = number(due[0]),
+                     .group = bench.table.group,
+                     .media = bench.table.media,
+                     .received = time_of(due[1]),
+                     .rtp = number(due[2]),
+                     .presented = is(due[3], "-") ? 0 : time_of(due[3]),
+                     .counted = number(due[4]),
+                 });
+}
+
+/* A lateness in the text is so many times 2^32, as a time in seconds is. */
+static void step_lateness(void)
+{
+    check_time((uint64_t)lateness(bench.target, bench.table.rate, bench.reading));
+}
+
+static void step_age(void)
+{
+    check_time(bench.reading.ntp - bench.target.received);
+}
+
+static void step_delay(void)
+{
+    check_time(bench.target.presented - bench.target.received);
+}
+
+static void step_members(void)
+{
+    check_number(prunepocket_count_members(bench.table));
+}
+
+static void step_place(void)
+{
+    place_t place = prunepocket_member_at(bench.table, number(asked[0]));
+    int is_free = is(due[0], "free");
+    origin_t origin;
+
+    due_words(is_free ? 1 : 2);
+    check_equal("held", place.held, !is_free);
+    if (is_free)
+        return;
+    origin = origin_of(due[1]);
+    check_equal("source", place.member.source, number(due[0]));
+    check_true("origin", memcmp(&place.member.origin, &origin, sizeof origin) == 0);
+}
+
+static void step_unchanged(void)
+{
+    target_t now = prunepocket_choose(bench.table, bench.reading).target;
+    target_t then = prunepocket_choose(bench.before, bench.reading).target;
+
+    due_words(0);
+    for (size_t i = 0; i < PRUNEPOCKET_PLACES; i++) {
+        place_t place = prunepocket_member_at(bench.table, i);
+        place_t before = prunepocket_member_at(bench.before, i);
+
+        check_equal("held", place.held, before.held);
+        check_true("member", same_record(&place.member, &before.member));
+    }
+    check_true("target", same_target(&now, &then));
+}
+
+static void step_write_report(void)
+{
+    uint8_t buffer[PRUNEPOCKET_REPORT_BYTES];
+
+    check_bytes(buffer, write_report(buffer));
+}
+
+static void step_write_settings(void)
+{
+    uint8_t buffer[PRUNEPOCKET_SETTINGS_BYTES];
+    uint64_t written = 0;
+    target_t target = bench.target;
+
+    check_answer("write_settings",
+                 prunepocket_write_settings(number(asked[0]), target.group, target.media,
+                                            target.received, target.rtp, target.presented, buffer,
+                                            sizeof buffer, &written),
+                 0, 0);
+    check_bytes(buffer, written);
+}
+
+/* ---- The text -------------------------------------------------------------------------------- */
+
+#define ANY SIZE_MAX
+
+static const struct step {
+    const char *name;
+    size_t arguments;
+    void (*run)(void);
+} steps[] = {
+    {"table", 0, step_table},
+    {"open", 3, step_open},
+    {"reading", 2, step_reading},
+    {"stream", 2, step_stream},
+    {"report", 5, step_report},
+    {"farewell", 2, step_farewell},
+    {"send report", 5, step_send_report},
+    {"send farewell", 2, step_send_farewell},
+    {"fill", 2, step_fill},
+    {"sweep", 0, step_sweep},
+    {"datagram", ANY, step_datagram},
+    {"take", 1, step_take},
+    {"items", 0, step_items},
+    {"item", 1, step_item},
+    {"choose", 0, step_choose},
+    {"lateness", 0, step_lateness},
+    {"age", 0, step_age},
+    {"delay", 0, step_delay},
+    {"members", 0, step_members},
+    {"place", 1, step_place},
+    {"unchanged", 0, step_unchanged},
+    {"write report", 0, step_write_report},
+    {"write settings", 1, step_write_settings},
+};
+
+static unsigned long steps_run;
+
+/* Splits a text into its words: how many there are. */
+static size_t split(char *text, char **words)
+{
+    size_t count = 0;
+
+    for (char *word = strtok(text, " "); word != NULL; word = strtok(NULL, " ")) {
+        if (count == MOST_WORDS)
+            not_understood(word);
+        words[count++] = word;
+    }
+    words[count] = NULL;
+    return count;
+}
+
+/* The step whose name stands at the front of a text, alone or before a space. */
+static const struct step *find_step(const char *text)
+{
+    for (size_t i = 0; i < sizeof steps / sizeof *steps; i++) {
+        size_t length = strlen(steps[i].name);
+
+        if (strncmp(text, steps[i].name, length) == 0 &&
+            (text[length] == '\0' || text[length] == ' '))
+            return &steps[i];
+    }
+    not_understood(text);
+    return NULL;
+}
+
+/* Runs a step, without the two spaces before it. */
+static void run(char *text)
+{
+    char *answer = strstr(text, " = ");
+    const struct step *step;
+
+    due[0] = NULL;
+    if (answer != NULL) {
+        *answer = '\0';
+        split(answer + 3, due);
+    }
+    step = find_step(text);
+    if (split(text + strlen(step->name), asked) != step->arguments && step->arguments != ANY)
+        not_understood("so many words");
+    step->run();
+    steps_run++;
+}
+
+int main(void)
+{
+    static char text[1024];
+    static char copy[sizeof text];
+    unsigned long lines = 0;
+    FILE *stream = fopen(TEXT, "r");
+
+    start_checks(TEXT);
+    name = copy;
+    bench.datagram = allocate(0);
+    if (stream == NULL) {
+        perror(TEXT);
+        return 1;
+    }
+    for (line = 1; fgets(text, sizeof text, stream) != NULL; line++) {
+        int is_step = strncmp(text, "  ", 2) == 0;
+
+        if (strlen(text) == sizeof text - 1 || (!is_step && strchr(" \t", text[0]) != NULL))
+            not_understood(text);
+        text[strcspn(text, "\n")] = '\0';
+        strcpy(copy, text);
+        lines += is_step;
+        if (is_step)
+            run(text + 2);
+    }
+    fclose(stream);
+    free(bench.datagram);
+    check_true("there are steps", lines > 0);
+    check_equal("steps that were run", steps_run, lines);
+    printf("%s: %lu steps\n", file, steps_run);
+    return finish_checks();
+}

@@ -1,0 +1,476 @@
+//! Runs the scenes of the receiving bench's text on a side, and holds every
+//! answer against the text's own. README.md has the form of the text.
+
+use crate::cases::parse_bytes;
+use crate::compare::{same, Verdict};
+use crate::encoder::Message;
+use crate::members::{Call, Choice, Opening, Origin, Reading, Record, ReportFields, Target};
+use crate::sides::Side;
+use crate::target::AtReading;
+use prunepocket_sys::{Refusal, ReportMessage, SettingsMessage, PLACES};
+
+const OPENING: Opening = Opening {
+    group: 42,
+    media: 7,
+    rate: 90_000,
+};
+
+const READING: Reading = Reading {
+    ntp: 1000 << 32,
+    rtp: 9_000_000,
+};
+
+const PAYLOAD_TYPE: u8 = 33;
+
+/// What `fill` sends: the words of P1's report behind source and origin.
+const P1: [&str; 3] = ["999", "8910000", "0x03E78000"];
+
+/// How many steps were run, or the first line that was not understood or got
+/// another answer.
+pub fn run<S: Side>(text: &str) -> Result<usize, String> {
+    let mut bench = Bench::<S>::new()?;
+    let mut steps = 0;
+    for (index, line) in text.lines().enumerate() {
+        let verdict = match line.strip_prefix("  ") {
+            Some(step) => bench.run(step),
+            None if line.starts_with([' ', '\t']) => Err(String::from("not a step")),
+            None => continue,
+        };
+        verdict.map_err(|wrong| format!("line {}: {line}: {wrong}", index + 1))?;
+        steps += 1;
+    }
+    Ok(steps)
+}
+
+/// A side, and what steps leave for the steps behind them.
+struct Bench<S> {
+    side: S,
+    /// The side before the last call that could change it.
+    before: S,
+    opening: Opening,
+    reading: Reading,
+    /// The group and media source of the reports.
+    stream: (u32, u32),
+    datagram: Vec<u8>,
+    last_report: Option<Record>,
+    target: Option<Target>,
+}
+
+impl<S: Side> Bench<S> {
+    fn new() -> Result<Self, String> {
+        let side = S::open(&OPENING).map_err(|number| format!("opening: {number}"))?;
+        Ok(Bench {
+            before: side.clone(),
+            side,
+            opening: OPENING,
+            reading: READING,
+            stream: (OPENING.group, OPENING.media),
+            datagram: Vec::new(),
+            last_report: None,
+            target: None,
+        })
+    }
+
+    fn run(&mut self, step: &str) -> Verdict {
+        let (asked, due) = step.split_once(" = ").unwrap_or((step, ""));
+        let asked: Vec<&str> = asked.split(' ').collect();
+        let due: Vec<&str> = due.split_whitespace().collect();
+        match (&asked[..], &due[..]) {
+            (["table"], []) => {
+                self.reading = READING;
+                is(self.open(OPENING), 0)
+            }
+            (["reading", ntp, rtp], []) => {
+                let (ntp, rtp) = (time(ntp)?, number(rtp)?);
+                self.reading = Reading { ntp, rtp };
+                Ok(())
+            }
+            (["stream", group, media], []) => {
+                self.stream = (number(group)?, number(media)?);
+                Ok(())
+            }
+            (["datagram", words @ ..], []) => {
+                self.datagram = bytes(words)?;
+                Ok(())
+            }
+            (["take", origin], due) => {
+                let origin = parse_origin(origin)?;
+                let answer = self.take(&self.datagram.clone(), &origin);
+                is(answer, numbers(due)?)
+            }
+            (asked, [due]) if is_call(asked[0]) => is(self.call(asked)?, number(due)?),
+            (asked, due) => self.look(asked, due),
+        }
+    }
+
+    /// The number of a call.
+    fn call(&mut self, asked: &[&str]) -> Result<u64, String> {
+        match asked {
+            ["open", group, media, rate] => Ok(self.open(Opening {
+                group: number(group)?,
+                media: number(media)?,
+                rate: number(rate)?,
+            })),
+            ["report", fields @ ..] => {
+                let record = self.record(fields)?;
+                Ok(self.make(&Call::Report(record, self.reading)))
+            }
+            ["farewell", source, origin] => {
+                let call = Call::Farewell(number(source)?, parse_origin(origin)?);
+                Ok(self.make(&call))
+            }
+            ["sweep"] => Ok(self.make(&Call::Sweep(self.reading))),
+            ["send", "report", fields @ ..] => {
+                let record = self.record(fields)?;
+                self.send_report(&record)
+            }
+            ["send", "farewell", source, origin] => {
+                let source: u32 = number(source)?;
+                let bye = [0x81CB_0001, source].map(u32::to_be_bytes).concat();
+                self.send(source, &bye, &parse_origin(origin)?)
+            }
+            ["fill", first, last] => self.fill(number(first)?, number(last)?),
+            _ => Err(String::from("not a step")),
+        }
+    }
+
+    /// The answer to a question, which changes nothing.
+    fn look(&mut self, asked: &[&str], due: &[&str]) -> Verdict {
+        match (asked, due) {
+            (["items"], due) => is(S::count_items(&self.datagram), count(due)?),
+            (["item", index], due) => is(S::item_at(&self.datagram, number(index)?), item(due)?),
+            (["choose"], due) => is(self.choose()?, self.choice(due)?),
+            (["lateness"], [due]) => {
+                let lateness = self.at_reading(&[]).lateness(&self.target()?);
+                is(lateness, number::<i128>(due)? << 32)
+            }
+            (["age"], [due]) => {
+                let age = self.reading.ntp.wrapping_sub(self.target()?.received);
+                is(age, time(due)?)
+            }
+            (["delay"], [due]) => {
+                let target = self.target()?;
+                is(target.presented.wrapping_sub(target.received), time(due)?)
+            }
+            (["members"], [due]) => is(self.side.count_members(), number(due)?),
+            (["place", index], due) => {
+                let member = self.side.member_at(number(index)?);
+                let held = member.map(|member| (member.source, member.origin));
+                is(held, holder(due)?)
+            }
+            (["unchanged"], []) => self.unchanged(),
+            (["write", "report"], words) => {
+                let report = self.last_report.ok_or("there is no report")?;
+                is(S::write(&report_message(&report)), Ok(bytes(words)?))
+            }
+            (["write", "settings", sender], words) => {
+                let settings = settings_message(number(sender)?, &self.target()?);
+                is(S::write(&settings), Ok(bytes(words)?))
+            }
+            _ => Err(String::from("not a step")),
+        }
+    }
+
+    /// A refused opening leaves the table before.
+    fn open(&mut self, opening: Opening) -> u64 {
+        match S::open(&opening) {
+            Ok(side) => {
+                self.before = side.clone();
+                self.side = side;
+                self.opening = opening;
+                self.stream = (opening.group, opening.media);
+                0
+            }
+            Err(number) => number,
+        }
+    }
+
+    fn make(&mut self, call: &Call) -> u64 {
+        self.before = self.side.clone();
+        self.side.call(call)
+    }
+
+    fn take(&mut self, datagram: &[u8], origin: &Origin) -> Result<Vec<u64>, Refusal> {
+        self.before = self.side.clone();
+        self.side.take(datagram, origin, &self.reading)
+    }
+
+    /// A message behind an RR of its sender is a datagram with one call.
+    fn send(&mut self, sender: u32, message: &[u8], origin: &Origin) -> Result<u64, String> {
+        let rr = [0x80C9_0001, sender].map(u32::to_be_bytes).concat();
+        match self.take(&[&rr, message].concat(), origin).as_deref() {
+            Ok([number]) => Ok(*number),
+            answer => Err(format!("not one call: {answer:?}")),
+        }
+    }
+
+    fn send_report(&mut self, record: &Record) -> Result<u64, String> {
+        let message = S::write(&report_message(record));
+        let message = message.map_err(|number| format!("not written: {number}"))?;
+        self.send(record.source, &message, &record.origin)
+    }
+
+    /// The last number that is not 0, or 0.
+    fn fill(&mut self, first: u32, last: u32) -> Result<u64, String> {
+        let before = self.side.clone();
+        let mut answer = 0;
+        for source in first..=last {
+            let origin = format!("192.0.2.1:{}", 5000 + source);
+            let [received, rtp, presented] = P1;
+            let record = self.record(&[&source.to_string(), &origin, received, rtp, presented])?;
+            let number = self.send_report(&record)?;
+            answer = if number == 0 { answer } else { number };
+        }
+        self.before = before;
+        Ok(answer)
+    }
+
+    /// The choice is as defined for the members that the side shows.
+    fn choose(&mut self) -> Result<Choice, String> {
+        let choice = self.side.choose(&self.reading);
+        self.at_reading(&members(&self.side)).check(&choice, &[0])?;
+        self.target = choice.ok();
+        Ok(choice)
+    }
+
+    fn target(&self) -> Result<Target, String> {
+        self.target.ok_or(String::from("there is no target"))
+    }
+
+    fn at_reading<'a>(&self, members: &'a [Record]) -> AtReading<'a> {
+        AtReading {
+            rate: self.opening.rate,
+            reading: self.reading,
+            members,
+        }
+    }
+
+    fn unchanged(&self) -> Verdict {
+        for place in 0..PLACES {
+            let [now, then] = [&self.side, &self.before].map(|side| side.member_at(place));
+            same(format_args!("place {place}"), &now, &then)?;
+        }
+        let [now, then] = [&self.side, &self.before].map(|side| side.choose(&self.reading));
+        same(format_args!("the target"), &now, &then)
+    }
+
+    fn record(&mut self, fields: &[&str]) -> Result<Record, String> {
+        let [source, origin, received, rtp, presented] = fields else {
+            return Err(String::from("not the fields of a report"));
+        };
+        let (p, presented) = match *presented {
+            "-" => (0, 0),
+            presented => (1, number(presented)?),
+        };
+        let record = Record {
+            source: number(source)?,
+            origin: parse_origin(origin)?,
+            report: ReportFields {
+                received: time(received)?,
+                group: self.stream.0,
+                media: self.stream.1,
+                rtp: number(rtp)?,
+                presented,
+                payload_type: PAYLOAD_TYPE,
+                p,
+            },
+        };
+        self.last_report = Some(record);
+        Ok(record)
+    }
+
+    fn choice(&self, words: &[&str]) -> Result<Choice, String> {
+        match words {
+            ["refused", refusal] => Ok(Err(number(refusal)?)),
+            [source, received, rtp, presented, counted] => Ok(Ok(Target {
+                source: number(source)?,
+                group: self.opening.group,
+                media: self.opening.media,
+                received: time(received)?,
+                rtp: number(rtp)?,
+                presented: match *presented {
+                    "-" => 0,
+                    presented => time(presented)?,
+                },
+                counted: number(counted)?,
+            })),
+            _ => Err(String::from("not a choice")),
+        }
+    }
+}
+
+fn is_call(word: &str) -> bool {
+    ["open", "report", "farewell", "sweep", "send", "fill"].contains(&word)
+}
+
+/// Whether an answer is the text's.
+fn is<T: PartialEq + std::fmt::Debug>(answer: T, due: T) -> Verdict {
+    match answer == due {
+        true => Ok(()),
+        false => Err(format!("got {answer:?}, the text has {due:?}")),
+    }
+}
+
+fn members(side: &impl Side) -> Vec<Record> {
+    (0..PLACES)
+        .filter_map(|place| side.member_at(place))
+        .collect()
+}
+
+fn report_message(record: &Record) -> Message {
+    let report = &record.report;
+    Message::Report(ReportMessage {
+        sender: record.source,
+        payload_type: report.payload_type.into(),
+        p: report.p.into(),
+        group: report.group,
+        media: report.media,
+        received: report.received,
+        rtp: report.rtp,
+        presented: report.presented,
+    })
+}
+
+fn settings_message(sender: u32, target: &Target) -> Message {
+    Message::Settings(SettingsMessage {
+        sender,
+        group: target.group,
+        media: target.media,
+        received: target.received,
+        rtp: target.rtp,
+        presented: target.presented,
+    })
+}
+
+/// Decimal, or hex behind `0x`.
+fn number<T: TryFrom<u64>>(word: &str) -> Result<T, String> {
+    let number = match word.strip_prefix("0x") {
+        Some(digits) => u64::from_str_radix(digits, 16),
+        None => word.parse(),
+    };
+    let number = number.ok().and_then(|number| T::try_from(number).ok());
+    number.ok_or(format!("not a number: {word}"))
+}
+
+/// Seconds, and units of 2^-32 s behind a plus.
+fn time(word: &str) -> Result<u64, String> {
+    let (seconds, units) = word.split_once('+').unwrap_or((word, "0"));
+    let (seconds, units): (u32, u32) = (number(seconds)?, number(units)?);
+    Ok(u64::from(seconds) << 32 | u64::from(units))
+}
+
+/// Words of eight hex digits.
+fn bytes(words: &[&str]) -> Result<Vec<u8>, String> {
+    let words = words.iter().map(|word| match word.len() {
+        8 => parse_bytes(word).ok_or(format!("not in hex: {word}")),
+        _ => Err(format!("not a word of eight digits: {word}")),
+    });
+    Ok(words.collect::<Result<Vec<_>, _>>()?.concat())
+}
+
+/// An address, a colon and a port.
+fn parse_origin(word: &str) -> Result<Origin, String> {
+    let (address, port) = word.split_once(':').ok_or(format!("no port: {word}"))?;
+    let bytes = match address.contains('.') {
+        true => {
+            let bytes = address.split('.').map(number);
+            let bytes = bytes.collect::<Result<Vec<u8>, _>>()?;
+            [&[0; 10][..], &[255, 255], &bytes].concat()
+        }
+        false => parse_bytes(address).unwrap_or_default(),
+    };
+    Ok(Origin {
+        address: bytes
+            .try_into()
+            .map_err(|_| format!("not an address: {address}"))?,
+        port: number(port)?,
+    })
+}
+
+fn refusal(words: &[&str]) -> Result<Refusal, String> {
+    match words {
+        ["refused", refusal, place] => Ok(Refusal::new(number(refusal)?, number(place)?)),
+        _ => Err(format!("not an answer: {words:?}")),
+    }
+}
+
+fn count(words: &[&str]) -> Result<Result<u64, Refusal>, String> {
+    match words {
+        [count] => Ok(Ok(number(count)?)),
+        words => Ok(Err(refusal(words)?)),
+    }
+}
+
+/// The numbers of calls, of which there may be none.
+fn numbers(words: &[&str]) -> Result<Result<Vec<u64>, Refusal>, String> {
+    match words {
+        ["none"] => Ok(Ok(Vec::new())),
+        ["refused", ..] => Ok(Err(refusal(words)?)),
+        [] => Err(String::from("no answer")),
+        words => {
+            let numbers = words.iter().map(|word| number(word));
+            Ok(Ok(numbers.collect::<Result<_, _>>()?))
+        }
+    }
+}
+
+/// The kind and the source of an item.
+fn item(words: &[&str]) -> Result<Result<(u64, u64), Refusal>, String> {
+    match words {
+        ["report", source] => Ok(Ok((1, number(source)?))),
+        ["settings", source] => Ok(Ok((2, number(source)?))),
+        ["farewell", source] => Ok(Ok((3, number(source)?))),
+        words => Ok(Err(refusal(words)?)),
+    }
+}
+
+/// Who holds a place, if anybody does.
+fn holder(words: &[&str]) -> Result<Option<(u32, Origin)>, String> {
+    match words {
+        ["free"] => Ok(None),
+        [source, origin] => Ok(Some((number(source)?, parse_origin(origin)?))),
+        _ => Err(String::from("not who holds a place")),
+    }
+}
+
+#[cfg(test)]
+mod tests {
+    use super::run;
+    use crate::intake::Intake;
+
+    const REPORT: &str = "  report 10 192.0.2.1:5010 999 8910000 0x03E78000";
+
+    fn fails(text: &str) -> bool {
+        run::<Intake>(text).is_err()
+    }
+
+    #[test]
+    fn steps_are_counted() {
+        let text = format!("A scene.\n  table\n{REPORT} = 0\n\n  members = 1\n");
+        assert_eq!(run::<Intake>(&text), Ok(3));
+    }
+
+    #[test]
+    fn another_answer_fails() {
+        assert!(fails(&format!("{REPORT} = 14\n")));
+        assert!(fails(&format!("{REPORT} = 0\n  unchanged\n")));
+        assert!(fails("  members = 1\n"));
+        assert!(fails("  place 0 = 10 192.0.2.1:5010\n"));
+        assert!(fails("  items = 0\n"));
+        assert!(fails("  choose = refused 19\n"));
+    }
+
+    #[test]
+    fn a_line_that_is_not_understood_fails() {
+        for line in [
+            "  sweeps = 0",
+            "  sweep",
+            "  members 1",
+            "  table = 0",
+            " table",
+            "\ttable",
+        ] {
+            assert!(fails(line), "{line}");
+        }
+    }
+}

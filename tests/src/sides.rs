@@ -1,0 +1,161 @@
+//! The archive and the independent side behind one trait, so that a text of
+//! steps runs on either.
+
+use crate::archive;
+use crate::arrivals::Arrival;
+use crate::decoder::decode;
+use crate::encoder::Message;
+use crate::intake::{Answer, Intake};
+use crate::members::{Call, Choice, Opening, Origin, Reading, Record};
+use prunepocket_sys::{count_items, item_field, Refusal, Table};
+
+/// More calls than a datagram can have.
+const MOST_CALLS: usize = 512;
+
+/// A side that holds a table.
+pub trait Side: Clone {
+    fn open(opening: &Opening) -> Result<Self, u64>;
+    fn call(&mut self, call: &Call) -> u64;
+    /// The number of each call that a whole datagram makes.
+    fn take(
+        &mut self,
+        datagram: &[u8],
+        origin: &Origin,
+        reading: &Reading,
+    ) -> Result<Vec<u64>, Refusal>;
+    fn choose(&self, reading: &Reading) -> Choice;
+    fn count_members(&self) -> u64;
+    fn member_at(&self, place: usize) -> Option<Record>;
+    fn count_items(datagram: &[u8]) -> Result<u64, Refusal>;
+    /// The kind and the source of the item at an index.
+    fn item_at(datagram: &[u8], index: u64) -> Result<(u64, u64), Refusal>;
+    fn write(message: &Message) -> Result<Vec<u8>, u64>;
+}
+
+impl Answer {
+    /// The numbers at the front of a list, or the refusal.
+    fn numbers(self, mut list: Vec<u64>) -> Result<Vec<u64>, Refusal> {
+        let (number, place) = (self.number, self.place);
+        list.truncate(self.count as usize);
+        match number {
+            0 => Ok(list),
+            _ => Err(Refusal { number, place }),
+        }
+    }
+}
+
+impl Side for Table {
+    fn open(opening: &Opening) -> Result<Self, u64> {
+        archive::open(opening)
+    }
+
+    fn call(&mut self, call: &Call) -> u64 {
+        let answered = archive::call(self, call);
+        *self = answered.table;
+        answered.number
+    }
+
+    fn take(
+        &mut self,
+        datagram: &[u8],
+        origin: &Origin,
+        reading: &Reading,
+    ) -> Result<Vec<u64>, Refusal> {
+        let mut numbers = vec![0; MOST_CALLS];
+        let taken = self.take_datagram(datagram, origin, reading, &mut numbers);
+        *self = taken.table;
+        let answer = Answer {
+            number: taken.number,
+            place: taken.place,
+            count: taken.count,
+        };
+        answer.numbers(numbers)
+    }
+
+    fn choose(&self, reading: &Reading) -> Choice {
+        Table::choose(self, reading).choice()
+    }
+
+    fn count_members(&self) -> u64 {
+        Table::count_members(self).into()
+    }
+
+    fn member_at(&self, place: usize) -> Option<Record> {
+        let shown = Table::member_at(self, place);
+        (shown.held == 1).then_some(shown.member)
+    }
+
+    fn count_items(datagram: &[u8]) -> Result<u64, Refusal> {
+        let mut count = 0;
+        count_items(datagram, &mut count).map(|()| count)
+    }
+
+    fn item_at(datagram: &[u8], index: u64) -> Result<(u64, u64), Refusal> {
+        let (mut kind, mut source) = (0, 0);
+        item_field(datagram, index, 0, &mut kind)?;
+        item_field(datagram, index, 2, &mut source)?;
+        Ok((kind, source))
+    }
+
+    fn write(message: &Message) -> Result<Vec<u8>, u64> {
+        let mut buffer = vec![0; message.size()];
+        let written = archive::write(message, &mut buffer, &mut 0);
+        buffer.truncate(written.map_err(|refusal| refusal.number)? as usize);
+        Ok(buffer)
+    }
+}
+
+impl Side for Intake {
+    fn open(opening: &Opening) -> Result<Self, u64> {
+        Intake::open(opening, None)
+    }
+
+    fn call(&mut self, call: &Call) -> u64 {
+        Intake::call(self, call)
+    }
+
+    fn take(
+        &mut self,
+        datagram: &[u8],
+        origin: &Origin,
+        reading: &Reading,
+    ) -> Result<Vec<u64>, Refusal> {
+        let arrival = Arrival {
+            datagram: datagram.to_vec(),
+            origin: *origin,
+            reading: *reading,
+            length: MOST_CALLS,
+            choice: *reading,
+        };
+        let mut numbers = vec![0; MOST_CALLS];
+        Intake::take(self, &arrival, &mut numbers).numbers(numbers)
+    }
+
+    fn choose(&self, reading: &Reading) -> Choice {
+        Intake::choose(self, reading)
+    }
+
+    fn count_members(&self) -> u64 {
+        self.members().iter().flatten().count() as u64
+    }
+
+    fn member_at(&self, place: usize) -> Option<Record> {
+        self.members().get(place).copied().flatten()
+    }
+
+    fn count_items(datagram: &[u8]) -> Result<u64, Refusal> {
+        decode(datagram).map(|items| items.len() as u64)
+    }
+
+    fn item_at(datagram: &[u8], index: u64) -> Result<(u64, u64), Refusal> {
+        let items = decode(datagram)?;
+        // Refusal 9: the index is not below the item count; place 0.
+        let item = items.get(index as usize).ok_or(Refusal::new(9, 0))?;
+        let row = item.row();
+        Ok((row[0], row[2]))
+    }
+
+    fn write(message: &Message) -> Result<Vec<u8>, u64> {
+        message.encode_with(message.size(), None)
+    }
+}

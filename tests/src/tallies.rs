@@ -1,0 +1,54 @@
+//! What the long comparisons print of their tallies, and what they ask of them.
+
+use std::process::exit;
+use std::time::Instant;
+
+/// A name, and how often it was met.
+pub type Line = (String, u64);
+
+/// The name of an answer: a refusal's number, or 0.
+pub fn answer_name(number: usize) -> String {
+    match number {
+        0 => String::from("accepted"),
+        _ => format!("refused {number}"),
+    }
+}
+
+/// For each number how often it was the answer, in all and to each kind of
+/// call.
+pub fn print_answers<const MOST: usize>(
+    title: &str,
+    kinds: &[&str],
+    numbers: &[usize],
+    answers: &[[u64; MOST]],
+) {
+    let columns: String = kinds.iter().map(|kind| format!("{kind:>10}")).collect();
+    println!("{:<32}{title:>12}{columns}", "answer");
+    for &number in numbers {
+        let times = answers.iter().map(|answers| answers[number]);
+        let columns: String = times.clone().map(|times| format!("{times:>10}")).collect();
+        let in_all: u64 = times.sum();
+        println!("{:<32}{in_all:>12}{columns}", answer_name(number));
+    }
+}
+
+pub fn print_lines(lines: &[Line]) {
+    for (name, times) in lines {
+        println!("{name:<32}{times:>12}");
+    }
+}
+
+/// Lines with a name that is known beforehand.
+pub fn lines<const COUNT: usize>(lines: [(&str, u64); COUNT]) -> Vec<Line> {
+    lines.map(|(name, times)| (name.to_string(), times)).into()
+}
+
+/// The run had no mismatch. It fails where a line was met less often than that.
+pub fn settle(start: Instant, lines: impl IntoIterator<Item = Line>, least: u64) {
+    println!("no mismatch, {:.1} s", start.elapsed().as_secs_f64());
+    let least = least.max(1);
+    if let Some((name, _)) = lines.into_iter().find(|(_, times)| *times < least) {
+        println!("FAILED: {name}: met less than {least} times");
+        exit(1);
+    }
+}
