@@ -26,6 +26,10 @@
 #include <sys/socket.h>
 #include <unistd.h>
 
+/* What the host is told of its stream. One line names the group, which the loudspeakers know. */
+static const char site_file[] = "m=audio 5004 RTP/AVP 33\r\n"
+                                "a=rtcp-idms:sync-group=42\r\n";
+
 #define GROUP 42
 #define MEDIA 7
 #define RATE 90000
@@ -339,9 +343,28 @@ static void show_taken(FILE *out, const struct taken *taken)
         show_answer(out, taken->rows + i * PRUNEPOCKET_ROW, taken->answers[i]);
 }
 
+/* The group that a site file names, or 0, for which no table opens. */
+static uint32_t group_of(const char *text)
+{
+    uint32_t group = 0;
+
+    while (*text != '\0') {
+        size_t length = strcspn(text, "\n");
+        uint64_t number;
+
+        length += text[length] == '\n';
+        number = prunepocket_read_sync_group((const uint8_t *)text, length, &group).number;
+        /* 21 says that it is another line, 22 that its group cannot be used. */
+        if (number != PRUNEPOCKET_BAD_LINE)
+            must_be_accepted("the group's line", number);
+        text += length;
+    }
+    return group;
+}
+
 static struct host open_host(int family, FILE *out)
 {
-    struct prunepocket_answered opened = prunepocket_open(GROUP, MEDIA, RATE);
+    struct prunepocket_answered opened = prunepocket_open(group_of(site_file), MEDIA, RATE);
 
     /* Refused, opening gives no table: look at the number before the table is used. */
     must_be_accepted("opening", opened.number);

@@ -10,6 +10,16 @@
  * 6: the byte behind the datagram is read
  * 7: after a refused report, a member's payload type in the table is another
  * 8: choosing hands back a table whose first place is not held
+ * 9: the group is written though the line is refused
+ * 10: the byte behind the line that is read is read
+ * 11: the line that is read is written on
+ * 12: a refused line has a place other than 0
+ * 13: a zero byte is put behind the line that was written, in a buffer that has room for it
+ * 14: a byte behind a buffer that is exactly long enough is written
+ * 15: a byte before the buffer is written
+ * 16: the buffer is written though it is too short
+ * 17: the number of bytes is written though the group is refused
+ * 18: the last byte of a buffer that is longer than the line is written
  */
 #include "prunepocket.h"
 
@@ -25,6 +35,10 @@ struct prunepocket_answered __wrap_prunepocket_report(struct prunepocket_table, 
                                                       struct prunepocket_reading);
 struct prunepocket_followed __real_prunepocket_choose(struct prunepocket_table, struct prunepocket_reading);
 struct prunepocket_followed __wrap_prunepocket_choose(struct prunepocket_table, struct prunepocket_reading);
+struct prunepocket_answer __real_prunepocket_read_sync_group(const uint8_t *, size_t, uint32_t *);
+struct prunepocket_answer __wrap_prunepocket_read_sync_group(const uint8_t *, size_t, uint32_t *);
+struct prunepocket_answer __real_prunepocket_write_sync_group(uint32_t, uint8_t *, size_t, uint64_t *);
+struct prunepocket_answer __wrap_prunepocket_write_sync_group(uint32_t, uint8_t *, size_t, uint64_t *);
 
 __attribute__((no_sanitize("all"))) struct prunepocket_answer
 __wrap_prunepocket_read_items(const uint8_t *datagram, size_t length, uint64_t *rows, size_t rows_length,
@@ -66,4 +80,41 @@ struct prunepocket_followed __wrap_prunepocket_choose(struct prunepocket_table t
     if (ARCHIVE_FAULT == 8)
         followed.table.held &= ~UINT64_C(1);
     return followed;
+}
+
+__attribute__((no_sanitize("all"))) struct prunepocket_answer
+__wrap_prunepocket_read_sync_group(const uint8_t *line, size_t length, uint32_t *group)
+{
+    struct prunepocket_answer answer = __real_prunepocket_read_sync_group(line, length, group);
+
+    if (ARCHIVE_FAULT == 9 && answer.number != 0)
+        *group = 0;
+    if (ARCHIVE_FAULT == 10 && length > 0)
+        (void)((const volatile uint8_t *)line)[length];
+    if (ARCHIVE_FAULT == 11 && answer.number == 0)
+        ((volatile uint8_t *)(uintptr_t)line)[length - 2] = 0;
+    if (ARCHIVE_FAULT == 12 && answer.number == PRUNEPOCKET_BAD_GROUP)
+        answer.place = length;
+    return answer;
+}
+
+__attribute__((no_sanitize("all"))) struct prunepocket_answer
+__wrap_prunepocket_write_sync_group(uint32_t group, uint8_t *buffer, size_t length, uint64_t *written)
+{
+    struct prunepocket_answer answer = __real_prunepocket_write_sync_group(group, buffer, length, written);
+    size_t bytes = answer.number == 0 ? (size_t)*written : 0;
+
+    if (ARCHIVE_FAULT == 13 && bytes > 0 && bytes < length)
+        buffer[bytes] = 0;
+    if (ARCHIVE_FAULT == 14 && bytes > 0 && bytes == length)
+        ((volatile uint8_t *)buffer)[length] = 0;
+    if (ARCHIVE_FAULT == 15 && bytes > 0)
+        ((volatile uint8_t *)buffer)[-1] = 0;
+    if (ARCHIVE_FAULT == 16 && answer.number == PRUNEPOCKET_SHORT_BUFFER && length > 0)
+        buffer[0] = 'a';
+    if (ARCHIVE_FAULT == 17 && answer.number == PRUNEPOCKET_BAD_GROUP)
+        *written = 0;
+    if (ARCHIVE_FAULT == 18 && bytes > 0 && bytes < length)
+        buffer[length - 1] ^= 1;
+    return answer;
 }

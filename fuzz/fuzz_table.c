@@ -4,6 +4,7 @@
  */
 #include "prunepocket.h"
 #include "register.h"
+#include "same.h"
 
 #include <inttypes.h>
 #include <stdbool.h>
@@ -54,14 +55,6 @@ int LLVMFuzzerInitialize(int *argc, char ***argv)
     (void)argv;
     atexit(print_met);
     return 0;
-}
-
-static void same(const char *what, uint64_t archive, uint64_t expected)
-{
-    if (archive != expected) {
-        fprintf(stderr, "differs: %s: archive %" PRIu64 ", expected %" PRIu64 "\n", what, archive, expected);
-        abort();
-    }
 }
 
 /* ---- Both sides of the comparison ---- */

@@ -1,12 +1,12 @@
 /*
  * prunepocket: reads and writes RTCP for inter-destination media
- * synchronization (IDMS, RFC 7272), and holds the member table of a
- * synchronization group, which chooses the target.
+ * synchronization (IDMS, RFC 7272) and the SDP line that names a group, and
+ * holds the member table of a synchronization group, which chooses the target.
  *
  * Link with libprunepocket.a. Every function takes any arguments that C can
  * pass truthfully (a pointer and the number of elements behind it), answers
- * every datagram and every table, allocates nothing, keeps nothing between
- * calls and may be called from any thread.
+ * every datagram, every line and every table, allocates nothing, keeps nothing
+ * between calls and may be called from any thread.
  *
  * A pointer may not be null. Where an array is empty, pass the address of any
  * object and the length 0. Two pointers that are passed to one call must not
@@ -25,10 +25,11 @@ extern "C" {
 /* ---- Answers ------------------------------------------------------------
  *
  * Each reader and writer answers the number of a refusal, and the byte of the
- * datagram at which it was met. Number 0 with place 0 says that the call was not
- * refused. After any other number, the memory that was lent to the call is as
- * before. The calls of the member table answer a number alone, 0 or 12 to 20;
- * that for a whole datagram answers number and place, 0, 1 to 7 or 10.
+ * datagram at which it was met, which is 0 where there is no datagram. Number 0
+ * with place 0 says that the call was not refused. After any other number, the
+ * memory that was lent to the call is as before. The calls of the member table
+ * answer a number alone, 0 or 12 to 20; that for a whole datagram answers number
+ * and place, 0, 1 to 7 or 10.
  */
 struct prunepocket_answer {
     uint64_t number;
@@ -58,6 +59,9 @@ struct prunepocket_answer {
 #define PRUNEPOCKET_NO_ROOM 18         /* report of a new member, and all 64 places are held */
 #define PRUNEPOCKET_NO_MEMBER 19       /* farewell from a source number that is not held */
 #define PRUNEPOCKET_NONE_COUNTED 20    /* no member is counted, since none is fresh: there is no target */
+/* Numbers 21 and 22 are of the SDP line. */
+#define PRUNEPOCKET_BAD_LINE 21  /* not the line a=rtcp-idms:sync-group=DIGITS CR LF; place 0 */
+#define PRUNEPOCKET_BAD_GROUP 22 /* that line with more than ten digits, or a group above 4294967294; place 0 */
 
 /* ---- Items --------------------------------------------------------------
  *
@@ -144,6 +148,42 @@ struct prunepocket_answer prunepocket_write_settings(uint32_t sender, uint32_t g
                                                      uint32_t rtp, uint64_t presented,
                                                      uint8_t *buffer, size_t length,
                                                      uint64_t *written);
+
+/* ---- The group number in a site file ------------------------------------
+ *
+ * A site file names its synchronization group by the SDP attribute rtcp-idms
+ * (RFC 7272, section 10), in a line such as
+ *
+ *     a=rtcp-idms:sync-group=42
+ *
+ * that ends with CR LF. Group 0 is the empty group: it is read and written, but
+ * prunepocket_open refuses it with 12.
+ */
+#define PRUNEPOCKET_LINE_BYTES 35 /* a buffer that every line fits into; the shortest line has 26 bytes */
+
+/*
+ * Reads the group number of a line into *group. The line is all of the length
+ * bytes: a=rtcp-idms:sync-group= in lower case, one to ten ASCII digits, CR, LF,
+ * and nothing before, between or behind, nor the zero byte that ends a C string.
+ * Leading zeros are read.
+ * Refusals, in this order, with place 0: 21 where the bytes are not so, however
+ * many digits there are, as for no digit, LF without CR or any other line of the
+ * file; 22 where they are so but for more than ten digits, leading zeros counted,
+ * or a number above 4294967294. After a refusal *group is as before.
+ */
+struct prunepocket_answer prunepocket_read_sync_group(const uint8_t *line, size_t length,
+                                                      uint32_t *group);
+
+/*
+ * Writes the line of a group number, CR LF included, to the front of a buffer,
+ * without leading zeros, and puts how many bytes it took, 26 to 35, into
+ * *written. Nothing behind these bytes is changed: no zero byte is put there.
+ * Refusals, in this order, with place 0: 22 where group is 4294967295; then 10
+ * where length is below that of the line. After a refusal nothing is changed.
+ */
+struct prunepocket_answer prunepocket_write_sync_group(uint32_t group,
+                                                       uint8_t *buffer, size_t length,
+                                                       uint64_t *written);
 
 /* ---- Member table -------------------------------------------------------
  *

@@ -44,6 +44,13 @@ extern "C" {
         length: usize,
         written: *mut u64,
     ) -> Answer;
+    pub fn prunepocket_read_sync_group(line: *const u8, length: usize, group: *mut u32) -> Answer;
+    pub fn prunepocket_write_sync_group(
+        group: u32,
+        buffer: *mut u8,
+        length: usize,
+        written: *mut u64,
+    ) -> Answer;
     pub fn prunepocket_open(group: u32, media: u32, rate: u32) -> Answered;
     pub fn prunepocket_report(table: Table, record: Record, reading: Reading) -> Answered;
     pub fn prunepocket_farewell(table: Table, source: u32, origin: Origin) -> Answered;

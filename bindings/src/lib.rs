@@ -8,8 +8,8 @@ mod structs;
 mod table;
 
 pub use messages::{
-    count_items, item_field, read_items, write_report, write_settings, Refusal, ReportMessage,
-    SettingsMessage,
+    count_items, item_field, read_items, read_sync_group, write_report, write_settings,
+    write_sync_group, Refusal, ReportMessage, SettingsMessage,
 };
 pub use structs::{
     layout, Answer, Answered, DatagramAnswered, Followed, Origin, Place, Reading, Record,

@@ -2,7 +2,8 @@
 
 use crate::functions::{
     prunepocket_count_items, prunepocket_item_field, prunepocket_read_items,
-    prunepocket_write_report, prunepocket_write_settings,
+    prunepocket_read_sync_group, prunepocket_write_report, prunepocket_write_settings,
+    prunepocket_write_sync_group,
 };
 use crate::structs::Answer;
 use std::fmt;
@@ -137,4 +138,20 @@ pub fn write_settings(
         )
     }
     .refusal()
+}
+
+/// Puts the group number of a site file's line into `group`.
+#[inline]
+pub fn read_sync_group(line: &[u8], group: &mut u32) -> Result<(), Refusal> {
+    // SAFETY: as for count_items.
+    unsafe { prunepocket_read_sync_group(line.as_ptr(), line.len(), group) }.refusal()
+}
+
+/// Puts the line of a group number at the front of `buffer`, and its length
+/// into `written`.
+#[inline]
+pub fn write_sync_group(group: u32, buffer: &mut [u8], written: &mut u64) -> Result<(), Refusal> {
+    // SAFETY: as for count_items.
+    unsafe { prunepocket_write_sync_group(group, buffer.as_mut_ptr(), buffer.len(), written) }
+        .refusal()
 }

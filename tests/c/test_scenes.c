@@ -9,6 +9,9 @@
 #define MOST_WORDS 64
 #define MOST_CALLS 512
 
+/* Characters of a line of the text. */
+#define MOST_TEXT 1024
+
 /* The words of the step under way, behind its name, and those of the answer that it is due. */
 static char *asked[MOST_WORDS + 1];
 static char *due[MOST_WORDS + 1];
@@ -86,6 +89,33 @@ static size_t bytes_of(char **words, uint8_t bytes[4 * MOST_WORDS])
     return 4 * count;
 }
 
+/*
+ * A text in double quotes, where \r is CR and \n is LF, for the caller to free. It stands at its
+ * exact length on the heap, for valgrind.
+ */
+static uint8_t *text_of(const char *word, size_t *length)
+{
+    uint8_t bytes[MOST_TEXT];
+    uint8_t *text;
+    const char *at = word;
+    size_t count = 0;
+
+    if (word == NULL || *word != '"')
+        not_understood(word);
+    for (at++; *at != '"' && *at != '\0'; at++) {
+        int is_escape = *at == '\\' && (at[1] == 'r' || at[1] == 'n');
+
+        at += is_escape;
+        bytes[count++] = (uint8_t)(!is_escape ? *at : *at == 'r' ? '\r' : '\n');
+    }
+    if (strcmp(at, "\"") != 0)
+        not_understood(word);
+    text = allocate(count);
+    memcpy(text, bytes, count);
+    *length = count;
+    return text;
+}
+
 /* An address, a colon and a port. */
 static origin_t origin_of(const char *word)
 {
@@ -160,6 +190,16 @@ static int check_refused(struct prunepocket_answer got)
     if (refused)
         due_words(3);
     check_answer("answer", got, refused ? number(due[1]) : 0, refused ? number(due[2]) : 0);
+    return refused;
+}
+
+/* Whether the text has a refusal at no place, which is then the answer. Else one word is due. */
+static int check_refused_at_0(struct prunepocket_answer got)
+{
+    int refused = is(due[0], "refused");
+
+    due_words(refused ? 2 : 1);
+    check_answer("answer", got, refused ? number(due[1]) : 0, 0);
     return refused;
 }
 
@@ -470,6 +510,39 @@ static void step_write_settings(void)
     check_bytes(buffer, written);
 }
 
+static void step_line(void)
+{
+    size_t length = 0;
+    uint8_t *text = text_of(asked[0], &length);
+    uint32_t group = (uint32_t)FILL;
+    int refused = check_refused_at_0(prunepocket_read_sync_group(text, length, &group));
+
+    check_equal("group", group, refused ? (uint32_t)FILL : number(due[0]));
+    free(text);
+}
+
+/* What the text does not have stays as it was. */
+static void step_write_line(void)
+{
+    uint8_t buffer[PRUNEPOCKET_LINE_BYTES] = {0};
+    uint8_t expected[sizeof buffer] = {0};
+    uint64_t written = FILL;
+    size_t length = 0;
+    uint8_t *text;
+    struct prunepocket_answer answer =
+        prunepocket_write_sync_group(number(asked[0]), buffer, sizeof buffer, &written);
+
+    if (check_refused_at_0(answer)) {
+        check_equal("written after a refusal", written, FILL);
+    } else {
+        text = text_of(due[0], &length);
+        check_equal("written", written, length);
+        memcpy(expected, text, length < sizeof expected ? length : sizeof expected);
+        free(text);
+    }
+    check_true("the same bytes", memcmp(buffer, expected, sizeof buffer) == 0);
+}
+
 /* ---- The text -------------------------------------------------------------------------------- */
 
 #define ANY SIZE_MAX
@@ -502,22 +575,46 @@ static const struct step {
     {"unchanged", 0, step_unchanged},
     {"write report", 0, step_write_report},
     {"write settings", 1, step_write_settings},
+    {"line", 1, step_line},
+    {"write line", 1, step_write_line},
 };
 
 static unsigned long steps_run;
+
+/* Behind a quoted text that starts here, or here where none does. Its spaces part no words. */
+static char *behind_quotes(char *at)
+{
+    char *end = *at == '"' ? strchr(at + 1, '"') : NULL;
+
+    if (*at == '"' && end == NULL)
+        not_understood(at);
+    return end == NULL ? at : end + 1;
+}
 
 /* Splits a text into its words: how many there are. */
 static size_t split(char *text, char **words)
 {
     size_t count = 0;
 
-    for (char *word = strtok(text, " "); word != NULL; word = strtok(NULL, " ")) {
+    while (*(text += strspn(text, " ")) != '\0') {
         if (count == MOST_WORDS)
-            not_understood(word);
-        words[count++] = word;
+            not_understood(text);
+        words[count++] = text;
+        text = behind_quotes(text);
+        text += strcspn(text, " ");
+        if (*text != '\0')
+            *text++ = '\0';
     }
     words[count] = NULL;
     return count;
+}
+
+/* Where a step's answer is told off by " = ", outside of quotes, or NULL. */
+static char *find_answer(char *text)
+{
+    while (*text != '\0' && strncmp(text, " = ", 3) != 0)
+        text = *text == '"' ? behind_quotes(text) : text + 1;
+    return *text == '\0' ? NULL : text;
 }
 
 /* The step whose name stands at the front of a text, alone or before a space. */
@@ -537,7 +634,7 @@ static const struct step *find_step(const char *text)
 /* Runs a step, without the two spaces before it. */
 static void run(char *text)
 {
-    char *answer = strstr(text, " = ");
+    char *answer = find_answer(text);
     const struct step *step;
 
     due[0] = NULL;
@@ -554,7 +651,7 @@ static void run(char *text)
 
 int main(void)
 {
-    static char text[1024];
+    static char text[MOST_TEXT];
     static char copy[sizeof text];
     unsigned long lines = 0;
     FILE *stream = fopen(TEXT, "r");

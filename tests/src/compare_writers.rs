@@ -88,7 +88,7 @@ impl WriterComparison {
         length: usize,
     ) -> Result<Result<Vec<u8>, u64>, String> {
         let expected = message.encode_with(length, self.fault);
-        let mut lent = Lent::new(&mut self.rng, length);
+        let mut lent = LentBuffer::new(&mut self.rng, length);
         let after = match &expected {
             Ok(bytes) => lent.with_front(bytes),
             Err(_) => lent.memory,
@@ -268,38 +268,39 @@ fn plain_settings(packet: &[u8]) -> Vec<u8> {
 }
 
 /// A buffer at any alignment, with noise in it and around it.
-struct Lent {
-    memory: [u8; ARENA],
+#[derive(Clone)]
+pub(crate) struct LentBuffer {
+    pub(crate) memory: [u8; ARENA],
     start: usize,
     length: usize,
 }
 
-impl Lent {
-    fn new(rng: &mut Rng, length: usize) -> Self {
+impl LentBuffer {
+    pub(crate) fn new(rng: &mut Rng, length: usize) -> Self {
         let mut memory = [0; ARENA];
         for bytes in memory.chunks_exact_mut(8) {
             bytes.copy_from_slice(&rng.number().to_be_bytes());
         }
         let start = GUARD + rng.below(8);
-        Lent {
+        LentBuffer {
             memory,
             start,
             length,
         }
     }
 
-    fn buffer(&mut self) -> &mut [u8] {
+    pub(crate) fn buffer(&mut self) -> &mut [u8] {
         &mut self.memory[self.start..self.start + self.length]
     }
 
     /// The whole memory, with these bytes at the front of the buffer.
-    fn with_front(&self, bytes: &[u8]) -> [u8; ARENA] {
+    pub(crate) fn with_front(&self, bytes: &[u8]) -> [u8; ARENA] {
         let mut memory = self.memory;
         memory[self.start..self.start + bytes.len()].copy_from_slice(bytes);
         memory
     }
 
-    fn settle(&self, expected: &[u8; ARENA]) -> Verdict {
+    pub(crate) fn settle(&self, expected: &[u8; ARENA]) -> Verdict {
         if self.memory == *expected {
             return Ok(());
         }

@@ -1,12 +1,13 @@
 //! The independent side: a decoder, an encoder and a plain register of document
-//! 01's rules, seeded generators, and the comparison of all three with
-//! libprunepocket.a.
+//! 01's rules, a reader and a writer of a site file's line, seeded generators,
+//! and the comparison of all of these with libprunepocket.a.
 
 pub mod archive;
 pub mod arrivals;
 pub mod cases;
 pub mod compare;
 pub mod compare_intake;
+pub mod compare_site_lines;
 pub mod compare_table;
 pub mod compare_writers;
 pub mod decoder;
@@ -19,5 +20,7 @@ pub mod members;
 pub mod register;
 pub mod scenes;
 pub mod sides;
+pub mod site_lines;
+pub mod sync_group;
 pub mod tallies;
 pub mod target;

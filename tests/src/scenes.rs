@@ -72,6 +72,13 @@ impl<S: Side> Bench<S> {
     }
 
     fn run(&mut self, step: &str) -> Verdict {
+        // A TEXT may have spaces, so it is not taken apart into words.
+        if let Some(step) = step.strip_prefix("line ") {
+            return read_line::<S>(step);
+        }
+        if let Some(step) = step.strip_prefix("write line ") {
+            return write_line::<S>(step);
+        }
         let (asked, due) = step.split_once(" = ").unwrap_or((step, ""));
         let asked: Vec<&str> = asked.split(' ').collect();
         let due: Vec<&str> = due.split_whitespace().collect();
@@ -299,6 +306,17 @@ impl<S: Side> Bench<S> {
     }
 }
 
+fn read_line<S: Side>(step: &str) -> Verdict {
+    let (line, due) = split_text(step)?;
+    let due = due.strip_prefix(" = ").ok_or("no answer")?;
+    is(S::read_line(&line), group(due)?)
+}
+
+fn write_line<S: Side>(step: &str) -> Verdict {
+    let (group, due) = step.split_once(" = ").ok_or("no answer")?;
+    is(S::write_line(number(group)?), line(due)?)
+}
+
 fn is_call(word: &str) -> bool {
     ["open", "report", "farewell", "sweep", "send", "fill"].contains(&word)
 }
@@ -368,6 +386,16 @@ fn bytes(words: &[&str]) -> Result<Vec<u8>, String> {
     Ok(words.collect::<Result<Vec<_>, _>>()?.concat())
 }
 
+/// The bytes of a TEXT, and what stands behind it.
+fn split_text(words: &str) -> Result<(Vec<u8>, &str), String> {
+    let text = words
+        .strip_prefix('"')
+        .and_then(|rest| rest.split_once('"'));
+    let (text, behind) = text.ok_or(format!("not a text: {words}"))?;
+    let text = text.replace("\\r", "\r").replace("\\n", "\n");
+    Ok((text.into_bytes(), behind))
+}
+
 /// An address, a colon and a port.
 fn parse_origin(word: &str) -> Result<Origin, String> {
     let (address, port) = word.split_once(':').ok_or(format!("no port: {word}"))?;
@@ -391,6 +419,31 @@ fn refusal(words: &[&str]) -> Result<Refusal, String> {
     match words {
         ["refused", refusal, place] => Ok(Refusal::new(number(refusal)?, number(place)?)),
         _ => Err(format!("not an answer: {words:?}")),
+    }
+}
+
+/// The number of a refusal at place 0, where there is one.
+fn refusal_of_line(words: &str) -> Result<Option<Refusal>, String> {
+    match words.strip_prefix("refused ") {
+        Some(refusal) => Ok(Some(Refusal::new(number(refusal)?, 0))),
+        None => Ok(None),
+    }
+}
+
+/// The group number of a line.
+fn group(words: &str) -> Result<Result<u32, Refusal>, String> {
+    match refusal_of_line(words)? {
+        Some(refusal) => Ok(Err(refusal)),
+        None => Ok(Ok(number(words)?)),
+    }
+}
+
+/// The line of a group number.
+fn line(words: &str) -> Result<Result<Vec<u8>, Refusal>, String> {
+    match (refusal_of_line(words)?, split_text(words)) {
+        (Some(refusal), _) => Ok(Err(refusal)),
+        (None, Ok((line, ""))) => Ok(Ok(line)),
+        (None, _) => Err(format!("not a line: {words}")),
     }
 }
 
@@ -458,6 +511,23 @@ mod tests {
         assert!(fails("  place 0 = 10 192.0.2.1:5010\n"));
         assert!(fails("  items = 0\n"));
         assert!(fails("  choose = refused 19\n"));
+        let text = r#""a=rtcp-idms:sync-group=42\r\n""#;
+        for answer in ["43", "refused 21", "refused 22"] {
+            assert!(fails(&format!("  line {text} = {answer}\n")), "{answer}");
+        }
+        assert!(fails("  line \"\" = 0\n"));
+        assert!(fails(&format!("  write line 43 = {text}\n")));
+        assert!(fails(&format!("  write line 4294967295 = {text}\n")));
+        assert!(fails("  write line 42 = refused 22\n"));
+    }
+
+    #[test]
+    fn texts_stand_for_their_bytes() {
+        let text = r#""a=rtcp-idms:sync-group=42\r\n""#;
+        let read = format!("  line {text} = 42\n  line {text} = 0x2A\n");
+        let written = format!("  write line 0x2A = {text}\n");
+        let refused = "  line \"a = \\x\" = refused 21\n";
+        assert_eq!(run::<Intake>(&[&read, &written, refused].concat()), Ok(4));
     }
 
     #[test]
@@ -469,6 +539,22 @@ mod tests {
             "  table = 0",
             " table",
             "\ttable",
+            "  line",
+            "  line \"\"",
+            "  line \"\" =",
+            "  line \"\" = ",
+            "  line \"\" = refused",
+            "  line \"\" = refused 21 0",
+            "  line = refused 21",
+            "  line a = refused 21",
+            "  line \"a = refused 21",
+            "  line \"a\"b = refused 21",
+            "  line \"a\" \"b\" = refused 21",
+            "  write line = refused 22",
+            "  write line 4294967295",
+            "  write line 4294967296 = refused 22",
+            "  write line 42 = a=rtcp-idms:sync-group=42\\r\\n",
+            "  write line 42 = \"a=rtcp-idms:sync-group=42\\r\\n\" ",
         ] {
             assert!(fails(line), "{line}");
         }

@@ -7,7 +7,9 @@ use crate::decoder::decode;
 use crate::encoder::Message;
 use crate::intake::{Answer, Intake};
 use crate::members::{Call, Choice, Opening, Origin, Reading, Record};
+use crate::sync_group::{self, LONGEST_LINE};
 use prunepocket_sys::{count_items, item_field, Refusal, Table};
+use prunepocket_sys::{read_sync_group, write_sync_group};
 
 /// More calls than a datagram can have.
 const MOST_CALLS: usize = 512;
@@ -30,6 +32,10 @@ pub trait Side: Clone {
     /// The kind and the source of the item at an index.
     fn item_at(datagram: &[u8], index: u64) -> Result<(u64, u64), Refusal>;
     fn write(message: &Message) -> Result<Vec<u8>, u64>;
+    /// The group number of a site file's line.
+    fn read_line(line: &[u8]) -> Result<u32, Refusal>;
+    /// The line of a group number.
+    fn write_line(group: u32) -> Result<Vec<u8>, Refusal>;
 }
 
 impl Answer {
@@ -103,6 +109,18 @@ impl Side for Table {
         buffer.truncate(written.map_err(|refusal| refusal.number)? as usize);
         Ok(buffer)
     }
+
+    fn read_line(line: &[u8]) -> Result<u32, Refusal> {
+        let mut group = 0;
+        read_sync_group(line, &mut group).map(|()| group)
+    }
+
+    fn write_line(group: u32) -> Result<Vec<u8>, Refusal> {
+        let (mut buffer, mut written) = (vec![0; LONGEST_LINE], 0);
+        write_sync_group(group, &mut buffer, &mut written)?;
+        buffer.truncate(written as usize);
+        Ok(buffer)
+    }
 }
 
 impl Side for Intake {
@@ -157,5 +175,17 @@ impl Side for Intake {
 
     fn write(message: &Message) -> Result<Vec<u8>, u64> {
         message.encode_with(message.size(), None)
+    }
+
+    fn read_line(line: &[u8]) -> Result<u32, Refusal> {
+        let mut group = 0;
+        sync_group::read(line, &mut group).map(|()| group)
+    }
+
+    fn write_line(group: u32) -> Result<Vec<u8>, Refusal> {
+        let (mut buffer, mut written) = (vec![0; LONGEST_LINE], 0);
+        sync_group::write(group, &mut buffer, &mut written)?;
+        buffer.truncate(written as usize);
+        Ok(buffer)
     }
 }

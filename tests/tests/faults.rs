@@ -1,21 +1,25 @@
-//! Plants each fault in the decoder, in the encoder, in the register and in the
-//! intake, and asserts that the comparison finds it.
+//! Plants each fault in the decoder, in the encoder, in the reader and writer of
+//! site files' lines, in the register and in the intake, and asserts that the
+//! comparison finds it.
 
 use prunepocket_tests::compare::{Comparison, Verdict};
 use prunepocket_tests::compare_intake::{self, IntakeComparison};
+use prunepocket_tests::compare_site_lines::LineComparison;
 use prunepocket_tests::compare_table::{smallest, TableComparison};
 use prunepocket_tests::compare_writers::WriterComparison;
 use prunepocket_tests::encoder::Message;
 use prunepocket_tests::generator::{self, Rng};
 use prunepocket_tests::{arrivals, decoder, encoder, histories, intake, register};
+use prunepocket_tests::{site_lines, sync_group};
+use std::borrow::Borrow;
 use std::fmt::Debug;
 use std::process::exit;
 
-/// Each fault has to be found within so many datagrams, messages, histories or
-/// courses.
+/// Each fault has to be found within so many datagrams, messages, lines,
+/// histories or courses.
 const BOUND: u64 = 20_000;
 
-/// Which datagram, message, history or course showed the fault, and how.
+/// Which datagram, message, line, history or course showed the fault, and how.
 type Found = Option<(u64, String)>;
 
 fn main() {
@@ -34,6 +38,7 @@ fn main() {
         let found = in_messages(seed, fault, generator::settings_message);
         missed |= !print_found(fault, "settings", found);
     }
+    missed |= !lines_find_all(seed);
     for fault in register::Fault::all() {
         missed |= !print_found(fault, "history", in_histories(seed, fault));
     }
@@ -45,30 +50,54 @@ fn main() {
     }
 }
 
+/// Each fault of reader and writer is found in the edges, and again in the lines
+/// of the generator alone.
+fn lines_find_all(seed: u64) -> bool {
+    let lines = site_lines::edge_lines(&mut Rng::new(seed));
+    let writings = site_lines::edge_writings();
+    let mut found = true;
+    for fault in sync_group::Fault::OF_READER {
+        let check = LineComparison::check_line;
+        found &= print_found(fault, "edge", in_lines(seed, fault, lines.iter(), check));
+        let more = generated(seed, site_lines::line);
+        found &= print_found(fault, "line", in_lines(seed, fault, more, check));
+    }
+    for fault in sync_group::Fault::OF_WRITER {
+        let check = LineComparison::check_writing;
+        found &= print_found(fault, "edge", in_lines(seed, fault, writings.iter(), check));
+        let more = generated(seed, site_lines::writing);
+        found &= print_found(fault, "writing", in_lines(seed, fault, more, check));
+    }
+    found
+}
+
 /// Whether the fault was found.
 fn print_found(fault: impl Debug, unit: &str, found: Found) -> bool {
     let name = format!("{fault:?}");
     match &found {
         Some((run, difference)) => {
-            println!("{name:<28} found in {unit:<8} {run:>5}: {difference}");
+            println!("{name:<28} found in {unit:<8} {run:>6}: {difference}");
         }
-        None => println!("{name:<28} FAILED: not found up to {unit} {BOUND}"),
+        None => println!("{name:<28} FAILED: not found in any {unit}"),
     }
     found.is_some()
+}
+
+/// As many inputs of a generator as are tried.
+fn generated<I>(seed: u64, mut make: impl FnMut(&mut Rng) -> I) -> impl Iterator<Item = I> {
+    let mut rng = Rng::new(seed);
+    (0..BOUND).map(move |_| make(&mut rng))
 }
 
 /// The first input that shows the fault, which one it is, and how. The sound
 /// side answers it as the archive does: it is the fault that was found, not an
 /// error of the archive.
 fn hunt<I>(
-    seed: u64,
-    mut make: impl FnMut(&mut Rng) -> I,
+    inputs: impl Iterator<Item = I>,
     mut faulty: impl FnMut(&I) -> Verdict,
     sound: impl Fn(&I) -> Verdict,
 ) -> Option<(u64, I, String)> {
-    let mut rng = Rng::new(seed);
-    for run in 1..=BOUND {
-        let input = make(&mut rng);
+    for (run, input) in (1..).zip(inputs) {
         if let Err(difference) = faulty(&input) {
             assert_eq!(sound(&input), Ok(()));
             return Some((run, input, difference));
@@ -80,8 +109,7 @@ fn hunt<I>(
 fn in_datagrams(seed: u64, fault: decoder::Fault) -> Found {
     let mut comparison = Comparison::new(seed, Some(fault));
     let found = hunt(
-        seed,
-        generator::datagram,
+        generated(seed, generator::datagram),
         |datagram| comparison.check(datagram),
         |datagram| Comparison::new(seed, None).check(datagram),
     );
@@ -91,13 +119,27 @@ fn in_datagrams(seed: u64, fault: decoder::Fault) -> Found {
 fn in_messages(seed: u64, fault: encoder::Fault, make: fn(&mut Rng) -> Message) -> Found {
     let mut comparison = WriterComparison::new(seed, Some(fault));
     let found = hunt(
-        seed,
-        |rng| {
+        generated(seed, |rng| {
             let message = make(rng);
             (message, generator::buffer_length(rng, &message))
-        },
+        }),
         |(message, length)| comparison.check(message, *length),
         |(message, length)| WriterComparison::new(seed, None).check(message, *length),
+    );
+    found.map(|(run, _, difference)| (run, difference))
+}
+
+fn in_lines<I: Borrow<T>, T>(
+    seed: u64,
+    fault: sync_group::Fault,
+    inputs: impl Iterator<Item = I>,
+    check: fn(&mut LineComparison, &T) -> Verdict,
+) -> Found {
+    let mut comparison = LineComparison::new(seed, Some(fault));
+    let found = hunt(
+        inputs,
+        |input| check(&mut comparison, input.borrow()),
+        |input| check(&mut LineComparison::new(seed, None), input.borrow()),
     );
     found.map(|(run, _, difference)| (run, difference))
 }
@@ -106,8 +148,7 @@ fn in_messages(seed: u64, fault: encoder::Fault, make: fn(&mut Rng) -> Message) 
 fn in_histories(seed: u64, fault: register::Fault) -> Found {
     let mut comparison = TableComparison::new(seed, Some(fault));
     let (run, history, _) = hunt(
-        seed,
-        histories::history,
+        generated(seed, histories::history),
         |history| comparison.check(history),
         |history| TableComparison::new(seed, None).check(history),
     )?;
@@ -120,8 +161,7 @@ fn in_histories(seed: u64, fault: register::Fault) -> Found {
 fn in_courses(seed: u64, fault: intake::Fault) -> Found {
     let mut comparison = IntakeComparison::new(seed, Some(fault));
     let (run, course, _) = hunt(
-        seed,
-        arrivals::course,
+        generated(seed, arrivals::course),
         |course| comparison.check(course),
         |course| IntakeComparison::new(seed, None).check(course),
     )?;

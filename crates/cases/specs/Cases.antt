@@ -5,6 +5,7 @@ use mathlib.Core.List.{List, [], _∷_}
 use mathlib.Core.Path.{_≡_}
 use lib.IntN.{pos}
 use lib.ListN.{replicate}
+use Rattle.buffer.specs.Buffer.{buffer}
 use Rattle.idms.specs.declared.Report.{Report}
 use Rattle.idms.specs.declared.Settings.{Settings}
 use Rattle.origin.specs.declared.Origin.{Origin}
@@ -19,7 +20,7 @@ use Rattle.table.specs.declared.Table.{Table}
 use Rattle.table.specs.Calls.{opened, answered}
 use Rattle.table.specs.Choose.{choiceOf}
 use Rattle.table.specs.History.{tableFrom}
-use Rattle.writer.specs.Messages.{reportWords, settingsWords, reportIsUnwritable, settingsAreUnwritable, buffer}
+use Rattle.writer.specs.Messages.{reportMessage, settingsMessage}
 
 -- ---- the table and the reading of every case that states no other
 
@@ -105,12 +106,11 @@ settingsFor sender x =
 
 -- what the writers leave in buffers of zeros, as long as their messages
 abbrev pub settingsBytes : ℕ → Choice → List ℕ
-settingsBytes sender (Choice.Target x) =
-    buffer (settingsAreUnwritable (settingsFor sender x)) (settingsWords (settingsFor sender x)) (replicate 36 0)
+settingsBytes sender (Choice.Target x) = buffer (settingsMessage (settingsFor sender x)) (replicate 36 0)
 settingsBytes sender (Choice.Refused number) = []
 
 abbrev pub reportBytes : Report → List ℕ
-reportBytes r = buffer (reportIsUnwritable r) (reportWords r) (replicate 40 0)
+reportBytes r = buffer (reportMessage r) (replicate 40 0)
 
 -- what a new table answers to a report
 abbrev pub numberAt : Reading → Record → ℕ

@@ -10,11 +10,16 @@ use lib.Dec.{ltb}
 use lib.IntN.{ℤ}
 use native.Mathlib.Omega.{arith}
 use borrow.Author.Tests.{ltb-true, ltb-false}
+use Rattle.buffer.specs.declared.Written.{Written}
+use Rattle.buffer.specs.Buffer.{Message, written}
+use Rattle.buffer.proofs.Refusals.{written-numbered}
 use Rattle.idms.specs.Rows.{fieldOf}
 use Rattle.idms.specs.declared.Field.{Field}
 use Rattle.idms.specs.declared.Found.{Found}
 use Rattle.idms.specs.declared.Placed.{Placed}
 use Rattle.idms.specs.declared.Refusal.{Refusal}
+use Rattle.idms.specs.declared.Report.{Report}
+use Rattle.idms.specs.declared.Settings.{Settings}
 use Rattle.origin.specs.declared.Origin.{Origin}
 use Rattle.register.specs.declared.Choice.{Choice}
 use Rattle.register.specs.declared.Reading.{Reading}
@@ -22,23 +27,25 @@ use Rattle.register.specs.declared.Record.{Record}
 use Rattle.register.specs.declared.Target.{Target}
 use Rattle.register.specs.Register.{Rows, Call}
 use Rattle.datagram.specs.declared.Count.{Count}
-use Rattle.refusals.specs.Refusals.{shortBuffer, outOfRange, noneCounted}
+use Rattle.refusals.specs.Refusals.{shortBuffer, noneCounted, badLine, badGroup}
 use Rattle.packet.specs.Checks.{Check, passed, refused}
 use Rattle.datagram.specs.Datagram.{DatagramNumber, datagramCheck, datagramItems}
 use Rattle.datagram.specs.Answers.{itemCount}
 use Rattle.rtcp.specs.Answers.{itemOf}
 use Rattle.rtcp.specs.Rows.{rowsAnswer}
 use Rattle.rtcp.proofs.Theorems.{Numbered, datagram-numbered, count-numbered, item-numbered, rows-numbered}
-use Rattle.writer.specs.declared.Written.{Written}
-use Rattle.writer.specs.Messages.{written}
-use Rattle.writer.proofs.Refusals.{written-numbered}
+use Rattle.writer.specs.Messages.{settingsMessage}
+use Rattle.sdp.specs.declared.SyncGroup.{SyncGroup}
+use Rattle.sdp.specs.Line.{groupMessage}
+use Rattle.sdp.specs.Answers.{groupIn}
+use Rattle.sdp.proofs.Theorems.{read-numbered}
 use Rattle.table.specs.declared.Table.{Table}
 use Rattle.choosing.specs.Choose.{latestTarget, choiceAmong}
 use Rattle.table.specs.Choose.{choiceOf}
 use Rattle.intake.specs.Datagrams.{callsIn, callsAnswered, answeredUnless, datagramAnswered}
-use Rattle.prunepocket.specs.declared.Answer.{Answer}
 use Rattle.prunepocket.specs.Answers.{countAnswer, cellAnswer, fieldAnswer}
-use Rattle.prunepocket.specs.Messages.{writeAnswer, Wrote}
+use Rattle.prunepocket.specs.Messages.{reportMessageWithP, writeAnswer}
+use Rattle.prunepocket.specs.SiteFile.{groupAnswer}
 use Rattle.prunepocket.specs.Following.{followedOf}
 
 -- ---- the calls that read
@@ -93,19 +100,53 @@ item-field-accepted d index field =
 -- ---- the calls that write
 
 write-accepted :
-    (w : Written) → ((n : ℕ) → w ≡ Written.Refused n → (n ≡ outOfRange) ⊎ (n ≡ shortBuffer))
+    (w : Written) → ((n : ℕ) → w ≡ Written.Refused n → 1 ≤ n)
     → (writeAnswer w .number ≡ 0) ↔ ((n : ℕ) × (w ≡ Written.Bytes n))
 write-accepted (Written.Bytes n) h = ((λ e. (n, refl)), λ s. refl)
-write-accepted (Written.Refused n) h =
-    ((λ e. absurd (⊎-elim (λ z. omega arith) (λ z. omega arith) (h n refl))), λ s. let e : _ = s .1 in cc)
+write-accepted (Written.Refused n) h = ((λ e. absurd (omega (arith, h n refl))), λ s. let e : _ = s .1 in cc)
 
--- prunepocket_write_report and prunepocket_write_settings
-pub wrote-accepted :
-    {unwritable : Bool} {words buf : List ℕ} {count : ℕ} {answer : Answer} {buf′ : List ℕ} {count′ : ℕ}
-    → Wrote unwritable words buf count answer buf′ count′
-    → (answer .number ≡ 0) ↔ ((n : ℕ) × (written unwritable words buf ≡ Written.Bytes n))
-wrote-accepted {unwritable} {words} {buf} w =
-    rw (w .answers) (write-accepted (written unwritable words buf) (written-numbered unwritable words buf))
+-- of every message whose own refusal has a number
+message-accepted :
+    (m : Message) (buf : List ℕ) → 1 ≤ m .number
+    → (writeAnswer (written m buf) .number ≡ 0) ↔ ((n : ℕ) × (written m buf ≡ Written.Bytes n))
+message-accepted m buf h =
+    write-accepted (written m buf)
+    (λ n e. ⊎-elim (λ z. omega (arith, h)) (λ z. omega arith) (written-numbered m buf n e))
+
+-- prunepocket_write_report
+pub write-report-accepted :
+    (p : ℕ) (r : Report) (buf : List ℕ)
+    → (writeAnswer (written (reportMessageWithP p r) buf) .number ≡ 0)
+    ↔ ((n : ℕ) × (written (reportMessageWithP p r) buf ≡ Written.Bytes n))
+write-report-accepted p r buf = message-accepted (reportMessageWithP p r) buf (omega arith)
+
+-- prunepocket_write_settings
+pub write-settings-accepted :
+    (s : Settings) (buf : List ℕ)
+    → (writeAnswer (written (settingsMessage s) buf) .number ≡ 0)
+    ↔ ((n : ℕ) × (written (settingsMessage s) buf ≡ Written.Bytes n))
+write-settings-accepted s buf = message-accepted (settingsMessage s) buf (omega arith)
+
+-- ---- the line of a site file
+
+-- prunepocket_read_sync_group
+pub read-sync-group-accepted :
+    (d : List ℕ) → (groupAnswer (groupIn d) .number ≡ 0) ↔ ((group : ℕ) × (groupIn d ≡ SyncGroup.Group group))
+read-sync-group-accepted d = go (groupIn d) (read-numbered d)
+  where
+    go :
+        (r : SyncGroup) → ((n : ℕ) → r ≡ SyncGroup.Refused n → (n ≡ badLine) ⊎ (n ≡ badGroup))
+        → (groupAnswer r .number ≡ 0) ↔ ((group : ℕ) × (r ≡ SyncGroup.Group group))
+    go (SyncGroup.Group group) h = ((λ e. (group, refl)), λ s. refl)
+    go (SyncGroup.Refused n) h =
+        ((λ e. absurd (⊎-elim (λ z. omega arith) (λ z. omega arith) (h n refl))), λ s. let e : _ = s .1 in cc)
+
+-- prunepocket_write_sync_group
+pub write-sync-group-accepted :
+    (group : ℕ) (buf : List ℕ)
+    → (writeAnswer (written (groupMessage group) buf) .number ≡ 0)
+    ↔ ((n : ℕ) × (written (groupMessage group) buf ≡ Written.Bytes n))
+write-sync-group-accepted group buf = message-accepted (groupMessage group) buf (omega arith)
 
 -- ---- a datagram taken in
 

@@ -13,6 +13,10 @@ use Rattle.prunepocket.specs.declared.Answer.{Answer}
 abbrev pub noRefusal : Answer
 noRefusal = record { number = 0; place = 0 }
 
+-- a refusal at place 0
+abbrev pub atPlaceZero : ℕ → Answer
+atPlaceZero number = record { number = number; place = 0 }
+
 abbrev pub refusalAnswer : Refusal → Answer
 refusalAnswer r = record { number = r .number; place = r .place }
 
@@ -29,7 +33,7 @@ countAfter (Count.Refused r) before = before
 -- field's memory afterwards
 abbrev pub cellAnswer : Field → Answer
 cellAnswer (Field.Value v) = noRefusal
-cellAnswer Field.Absent = record { number = noSuchItem; place = 0 }
+cellAnswer Field.Absent = atPlaceZero noSuchItem
 
 abbrev pub cellAfter : Field → ℕ → ℕ
 cellAfter (Field.Value v) before = v

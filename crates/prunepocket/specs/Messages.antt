@@ -4,13 +4,13 @@ use mathlib.Core.Path.{_≡_}
 use mathlib.Core.List.{List}
 use mathlib.Core.Bool.{Bool, _||_}
 use lib.Dec.{ltb, eqb}
+use Rattle.buffer.specs.declared.Written.{Written}
+use Rattle.buffer.specs.Buffer.{Message, written, buffer}
 use Rattle.idms.specs.declared.Report.{Report}
 use Rattle.idms.specs.declared.Settings.{Settings}
-use Rattle.writer.specs.declared.Written.{Written}
-use Rattle.writer.specs.Messages.{reportWords, settingsWords, reportIsUnwritable, settingsAreUnwritable}
-use Rattle.writer.specs.Messages.{written, buffer}
+use Rattle.writer.specs.Messages.{reportIsUnwritable, reportMessage}
 use Rattle.prunepocket.specs.declared.Answer.{Answer}
-use Rattle.prunepocket.specs.Answers.{noRefusal}
+use Rattle.prunepocket.specs.Answers.{noRefusal, atPlaceZero}
 
 abbrev pub reportOf : (sender type p group media received rtp presented : ℕ) → Report
 reportOf sender type p group media received rtp presented =
@@ -33,25 +33,21 @@ settingsOf sender group media received rtp presented =
 abbrev pub reportIsOut : ℕ → Report → Bool
 reportIsOut p r = ltb 1 p || reportIsUnwritable r
 
+-- The report's message with P as a number: the writer's own, and refused with 11 also where P is no bit.
+abbrev pub reportMessageWithP : ℕ → Report → Message
+reportMessageWithP p r =
+    record { unwritable = reportIsOut p r; number = reportMessage r .number; bytes = reportMessage r .bytes }
+
 abbrev pub writeAnswer : Written → Answer
 writeAnswer (Written.Bytes n) = noRefusal
-writeAnswer (Written.Refused number) = record { number = number; place = 0 }
+writeAnswer (Written.Refused number) = atPlaceZero number
 
 abbrev pub writeAfter : Written → ℕ → ℕ
 writeAfter (Written.Bytes n) before = n
 writeAfter (Written.Refused number) before = before
 
--- What a call that writes has done: its answer, the buffer afterwards, and the count's memory afterwards.
-pub record Wrote
-    (unwritable : Bool) (words buf : List ℕ) (count : ℕ) (answer : Answer) (buf′ : List ℕ) (count′ : ℕ) : Type 0 where
-  pub answers : answer ≡ writeAnswer (written unwritable words buf)
-  pub bytes : buf′ ≡ buffer unwritable words buf
-  pub counts : count′ ≡ writeAfter (written unwritable words buf) count
-
--- of the two messages
-abbrev pub WroteReport : ℕ → Report → List ℕ → ℕ → Answer → List ℕ → ℕ → Type 0
-WroteReport p r buf count answer buf′ count′ = Wrote (reportIsOut p r) (reportWords r) buf count answer buf′ count′
-
-abbrev pub WroteSettings : Settings → List ℕ → ℕ → Answer → List ℕ → ℕ → Type 0
-WroteSettings s buf count answer buf′ count′ =
-    Wrote (settingsAreUnwritable s) (settingsWords s) buf count answer buf′ count′
+-- What a call that writes a message has done: its answer, the buffer afterwards, and the count's memory afterwards.
+pub record Wrote (m : Message) (buf : List ℕ) (count : ℕ) (answer : Answer) (buf′ : List ℕ) (count′ : ℕ) : Type 0 where
+  pub answers : answer ≡ writeAnswer (written m buf)
+  pub leaves : buf′ ≡ buffer m buf
+  pub counts : count′ ≡ writeAfter (written m buf) count

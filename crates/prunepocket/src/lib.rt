@@ -1,7 +1,9 @@
 // Every function that C and Rust call, under the names of include/prunepocket.h. Each is thin: it calls a proved
 // function of a crate below and hands its answer on as plain numbers.
 mod members;
+mod site_file;
 
+use buffer::Written;
 use idms::Field;
 use idms::Found;
 use idms::Refusal;
@@ -10,14 +12,13 @@ use idms::Settings;
 use refusals::NO_SUCH_ITEM;
 use refusals::OUT_OF_RANGE;
 use rtcp::Count;
-use writer::Written;
 ghost use mathlib.Core.Path.{_≡_};
-ghost use Rattle.idms.specs.Rows.{fieldOf};
 ghost use Rattle.datagram.specs.Answers.{itemCount};
 ghost use Rattle.rtcp.specs.Answers.{itemOf};
 ghost use Rattle.rtcp.specs.Rows.{rowsAnswer, rowsAfter};
-ghost use Rattle.prunepocket.specs.Messages.{reportOf, settingsOf, writeAnswer, writeAfter};
-ghost use Rattle.prunepocket.specs.Messages.{WroteReport, WroteSettings};
+ghost use Rattle.writer.specs.Messages.{settingsMessage};
+ghost use Rattle.prunepocket.specs.Messages.{reportOf, reportMessageWithP, settingsOf};
+ghost use Rattle.prunepocket.specs.Messages.{writeAnswer, writeAfter, Wrote};
 ghost use Rattle.prunepocket.specs.Answers.{noRefusal, refusalAnswer, countAnswer, countAfter};
 ghost use Rattle.prunepocket.specs.Answers.{fieldAnswer, fieldAfter};
 
@@ -29,7 +30,7 @@ pub struct Answer {
 }
 
 // No refusal.
-fn accept() -> Answer
+pub(crate) fn accept() -> Answer
     ensures { λ r. ⌜ r ≡ noRefusal ⌝ }
 {
     Answer {
@@ -113,7 +114,7 @@ pub extern "C" fn prunepocket_read_items(
 }
 
 // What a writer answered, whose place is always 0.
-fn answer_write(w: Written) -> Answer
+pub(crate) fn answer_write(w: Written) -> Answer
     ensures { λ a. ⌜ a ≡ writeAnswer w ⌝ }
 {
     match w {
@@ -123,7 +124,7 @@ fn answer_write(w: Written) -> Answer
 }
 
 // How many bytes were written, or what stood there before.
-fn bytes_written(w: Written, before: u64) -> u64
+pub(crate) fn bytes_written(w: Written, before: u64) -> u64
     ensures { λ n. ⌜ n ≡ writeAfter w before ⌝ }
 {
     match w {
@@ -147,7 +148,7 @@ pub extern "C" fn prunepocket_write_report(
     bytes: &mut [u8],
     written: &mut u64,
 ) -> Answer
-    ensures { λ a. ⌜ WroteReport p (reportOf sender «payload_type» p group media received rtp presented)
+    ensures { λ a. ⌜ Wrote (reportMessageWithP p (reportOf sender «payload_type» p group media received rtp presented))
         (now (bytes .entry)) (now (written .entry)) a (now (bytes .exit)) (now (written .exit)) ⌝ }
 {
     // Checked here, before the number is cut to 8 bits and P to one.
@@ -191,7 +192,7 @@ pub extern "C" fn prunepocket_write_settings(
     bytes: &mut [u8],
     written: &mut u64,
 ) -> Answer
-    ensures { λ a. ⌜ WroteSettings (settingsOf sender group media received rtp presented)
+    ensures { λ a. ⌜ Wrote (settingsMessage (settingsOf sender group media received rtp presented))
         (now (bytes .entry)) (now (written .entry)) a (now (bytes .exit)) (now (written .exit)) ⌝ }
 {
     let s = Settings {

@@ -65,11 +65,20 @@ pub(crate) const WRITE_REPORT: usize = 29;
 
 pub(crate) const WRITE_SETTINGS: usize = 30;
 
+pub(crate) const READ_LINE: usize = 31;
+
+pub(crate) const READ_LINE_REFUSED: usize = 32;
+
+pub(crate) const WRITE_LINE: usize = 33;
+
+pub(crate) const WRITE_LINE_REFUSED: usize = 34;
+
 // The form of a line that is no step, and of a step that has none of the forms.
-pub(crate) const PROSE: usize = 31;
+pub(crate) const PROSE: usize = 35;
 
 // The step at a place, with the answer that it expects. In a form # is a number, @ a time, % an origin, ? a report's
-// presented field, ! a target's presented time, & answers of calls, * words of hex; all else stands for itself.
+// presented field, ! a target's presented time, & answers of calls, * words of hex, " a text; all else stands for
+// itself.
 pub(crate) fn matched(s: &[u8], at: usize) -> Line {
     matched_among(
         b"table\n\
@@ -102,14 +111,18 @@ pub(crate) fn matched(s: &[u8], at: usize) -> Line {
           place # = free\n\
           unchanged\n\
           write report =*\n\
-          write settings # =*\n",
+          write settings # =*\n\
+          line \" = #\n\
+          line \" = refused #\n\
+          write line # = \"\n\
+          write line # = refused #\n",
         s,
         at,
     )
 }
 
 // What came, as a sentence. $ and two characters stand for a value of the line: how it is printed, and which one.
-pub(crate) fn print_came(line: Line) {
+pub(crate) fn print_came(line: Line, s: &[u8]) {
     print_line(
         b"\n\
           \n\
@@ -141,7 +154,12 @@ pub(crate) fn print_came(line: Line) {
           \x20 place $n0: free\n\
           \x20   members $u0, target $u1\n\
           \x20 last report as written: $b2\n\
-          \x20 settings written from the target: $b2\n",
+          \x20 settings written from the target: $b2\n\
+          \x20 line $q0: group $n1\n\
+          \x20 line $q0: $a1\n\
+          \x20 line of group $n0: $w0\n\
+          \x20 line of group $n0: $a1\n",
         line,
+        s,
     );
 }

@@ -7,6 +7,7 @@ use crate::numbers::number;
 use crate::numbers::number_behind;
 use crate::numbers::time;
 use crate::numbers::words;
+use crate::quotes::quoted;
 use crate::text::byte_at;
 use crate::text::forward;
 use crate::text::line_end;
@@ -14,7 +15,8 @@ use origin::Origin;
 use origin::same_origin;
 
 // A line's form, the place behind what was read of it, and its values in the order of its words, the answer last. The
-// origin is apart. Words of hex are the place where they stand, and a report's presented field stands behind its P.
+// origin is apart. Words of hex and a text are the place where they stand, and a report's presented field stands behind
+// its P.
 pub(crate) struct Line {
     pub form: usize,
     pub at: usize,
@@ -115,7 +117,7 @@ fn hex_words(s: &[u8], at: usize) -> Parsed {
     }
 }
 
-fn octet(x: Parsed) -> u8 {
+pub(crate) fn octet(x: Parsed) -> u8 {
     (x.value % 256) as u8
 }
 
@@ -184,6 +186,7 @@ fn part_at(c: u8, s: &[u8], at: usize) -> Parsed {
         b'?' => presented(s, at, false),
         b'!' => presented(s, at, true),
         b'&' => answers(s, at),
+        b'"' => quoted(s, at),
         _ => hex_words(s, at),
     }
 }
@@ -192,7 +195,7 @@ fn part_at(c: u8, s: &[u8], at: usize) -> Parsed {
 fn with_part(line: Line, c: u8, s: &[u8]) -> Line {
     match c {
         b'%' => with_origin(line, s),
-        b'#' | b'@' | b'?' | b'!' | b'&' | b'*' => with(line, part_at(c, s, line.at)),
+        b'#' | b'@' | b'?' | b'!' | b'&' | b'*' | b'"' => with(line, part_at(c, s, line.at)),
         _ => with_character(line, c, s),
     }
 }

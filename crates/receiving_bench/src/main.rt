@@ -29,20 +29,25 @@
 //   unchanged                                    members and target are as before the last call
 //   write report = HEX..                         the last report, as the writer writes it
 //   write settings SENDER = HEX..                the target's settings, as the writer writes them
+//   line TEXT = GROUP | refused NUMBER           reads the line of a site file
+//   write line GROUP = TEXT | refused NUMBER     the line of that group number, as the writer writes it
 //
 // A number is decimal, or hex behind 0x, and has 32 bits. A TIME is SECONDS or SECONDS+UNITS, in units of 2^-32 s; so
 // are RECEIVED and a target's PRESENTED. A report's PRESENTED is the field. - as PRESENTED is P 0, or arrival mode. An
 // ORIGIN is ADDRESS:PORT, the address four decimal numbers with dots or 32 hex digits. HEX is eight hex digits. A
-// datagram that is taken in has at most seven answers.
+// datagram that is taken in has at most seven answers. A TEXT stands in double quotes and has at most 128 characters;
+// in it \r is CR and \n is LF, every other character stands for itself, and none is a double quote.
 mod calls;
 mod datagrams;
 mod forms;
+mod group_lines;
 mod items;
 mod lines;
 mod looks;
 mod measures;
 mod numbers;
 mod print;
+mod quotes;
 mod scene;
 mod text;
 
@@ -54,6 +59,7 @@ use crate::forms::ITEM_REFUSED;
 use crate::forms::ITEMS;
 use crate::forms::OPEN;
 use crate::forms::PROSE;
+use crate::forms::READ_LINE;
 use crate::forms::READING;
 use crate::forms::REPORT;
 use crate::forms::STREAM;
@@ -61,8 +67,10 @@ use crate::forms::SWEEP;
 use crate::forms::TABLE;
 use crate::forms::TAKE;
 use crate::forms::UNCHANGED;
+use crate::forms::WRITE_LINE_REFUSED;
 use crate::forms::matched;
 use crate::forms::print_came;
+use crate::group_lines::line_step;
 use crate::lines::Line;
 use crate::lines::same_line;
 use crate::lines::started;
@@ -141,6 +149,10 @@ fn told(table: Table, earlier: Table, line: Line, scene: Scene, record: Record, 
         },
         OPEN..=SWEEP => call(table, line, scene),
         TAKE..=ITEM_REFUSED => read_datagram(table, line, scene, s),
+        READ_LINE..=WRITE_LINE_REFUSED => Told {
+            table,
+            line: line_step(line, s),
+        },
         _ => Told {
             table,
             line: look(table, line, scene, record, s),
@@ -171,9 +183,9 @@ fn as_it_stands(s: &[u8], at: usize) -> u64 {
 }
 
 // Prints what came, and whether it is what the text expects.
-fn compared(line: Line, came: Line) -> u64 {
+fn compared(line: Line, came: Line, s: &[u8]) -> u64 {
     let other = !same_line(line, came) as u64;
-    print_came(came);
+    print_came(came, s);
     say_either(other, EXPECTED);
     end_line();
     other
@@ -187,7 +199,7 @@ fn printed(line: Line, came: Line, s: &[u8], at: usize, number: usize) -> u64 {
     if line.form < OPEN || line.form == PROSE {
         return as_it_stands(s, at);
     }
-    compared(line, came)
+    compared(line, came, s)
 }
 
 fn tallied(tally: Tally, outcome: u64) -> Tally {

@@ -1,8 +1,10 @@
 // What came, in words, on standard output. No contract can say what is written, so these functions have none: they are
 // proved to be safe and to end.
+use crate::group_lines::print_written;
 use crate::lines::Line;
 use crate::lines::mapped;
 use crate::lines::value;
+use crate::quotes::print_quoted;
 use crate::text::byte_at;
 use crate::text::forward;
 use crate::text::line_end;
@@ -13,42 +15,67 @@ use libc::STDOUT_FILENO;
 use origin::Origin;
 use origin::same_origin;
 
-pub(crate) const EXPECTED: usize = 21;
+pub(crate) const EXPECTED: usize = 0;
 
-const REFUSED_WITH: usize = 23;
+const REFUSED_WITH: usize = 2;
 
-const COMMA: usize = 24;
+const COMMA: usize = 3;
 
-const BY_ARRIVAL: usize = 25;
+const BY_ARRIVAL: usize = 4;
 
-const PRESENTED: usize = 26;
+const PRESENTED: usize = 5;
 
-const UNCHANGED_PHRASE: usize = 27;
+const UNCHANGED_PHRASE: usize = 6;
 
-const BYTES: usize = 29;
+const BYTES: usize = 8;
 
-pub(crate) const LINE: usize = 31;
+pub(crate) const LINE: usize = 10;
 
-pub(crate) const NOT_UNDERSTOOD: usize = 32;
+pub(crate) const NOT_UNDERSTOOD: usize = 11;
 
-pub(crate) const BENCH: usize = 33;
+pub(crate) const BENCH: usize = 12;
 
-pub(crate) const OF: usize = 34;
+pub(crate) const OF: usize = 13;
 
-pub(crate) const AS_EXPECTED: usize = 35;
+pub(crate) const AS_EXPECTED: usize = 14;
 
-const SECONDS: usize = 36;
+const SECONDS: usize = 15;
 
-const POINT: usize = 37;
+const POINT: usize = 16;
 
-const PORT: usize = 38;
+const PORT: usize = 17;
 
-const UNKNOWN: usize = 39;
+const UNKNOWN: usize = 18;
 
-// A phrase by its number: what a call's answer 0 to 20 stands for, and then the others.
+// The phrase of the answer 0, which those of the other answers follow.
+const ANSWERS: usize = 19;
+
+const LAST_ANSWER: u64 = 22;
+
+// A phrase by its number. What the answers stand for comes last, so that one more answer is
+// one more line and a higher LAST_ANSWER.
 pub(crate) fn say(phrase: usize) {
     print_phrase(
-        b"accepted\n\
+        b"\x20(as expected)\n\
+          \x20(NOT as expected)\n\
+          refused with \n\
+          , \n\
+          by arrival\n\
+          presented \n\
+          unchanged\n\
+          CHANGED\n\
+          the paper's bytes\n\
+          other bytes\n\
+          line \n\
+          : not understood\n\
+          receiving bench: \n\
+          \x20of \n\
+          \x20as expected\n\
+          \x20s\n\
+          .\n\
+          \x20port \n\
+          no answer of a call\n\
+          accepted\n\
           length 0, over 2048 or not a multiple of 4\n\
           a version other than 2, or a packet past the end\n\
           bad padding\n\
@@ -69,25 +96,8 @@ pub(crate) fn say(phrase: usize) {
           all 64 places are held\n\
           the number is not held\n\
           no member is fresh\n\
-          \x20(as expected)\n\
-          \x20(NOT as expected)\n\
-          refused with \n\
-          , \n\
-          by arrival\n\
-          presented \n\
-          unchanged\n\
-          CHANGED\n\
-          the paper's bytes\n\
-          other bytes\n\
-          line \n\
-          : not understood\n\
-          receiving bench: \n\
-          \x20of \n\
-          \x20as expected\n\
-          \x20s\n\
-          .\n\
-          \x20port \n\
-          no answer of a call\n",
+          not the line of a group number\n\
+          more than ten digits or a group above 4294967294\n",
         phrase,
     );
 }
@@ -128,8 +138,8 @@ fn print_answer(n: u64) {
         print_number(n);
         say(COMMA);
     }
-    if n <= 20 {
-        say(n as usize);
+    if n <= LAST_ANSWER {
+        say(forward(ANSWERS, n as usize));
     } else {
         say(UNKNOWN);
     }
@@ -195,8 +205,8 @@ fn print_origin(o: Origin) {
     print_number(o.port as u64);
 }
 
-// A value, as the letter says.
-fn print_value(letter: u8, n: u64, origin: Origin) {
+// A value, as the letter says. A text stands in s.
+fn print_value(letter: u8, n: u64, origin: Origin, s: &[u8]) {
     match letter {
         b'n' => print_number(n),
         b'h' => print_number(n / 4294967296),
@@ -206,31 +216,34 @@ fn print_value(letter: u8, n: u64, origin: Origin) {
         b'p' => print_presented(n),
         b'u' => say_either(n, UNCHANGED_PHRASE),
         b'b' => say_either(n, BYTES),
+        b'q' => print_quoted(s, n as usize),
+        b'w' => print_written(n),
         _ => print_origin(origin),
     }
 }
 
 // Prints a sentence up to its next $, and the value that this stands for. Answers the place behind.
-fn print_piece(s: &[u8], at: usize, line: Line) -> usize {
-    let end = run_end(s, at, b'$');
-    print_part(s, at, end);
-    if byte_at(s, end) != b'$' {
+fn print_piece(sentences: &[u8], at: usize, line: Line, s: &[u8]) -> usize {
+    let end = run_end(sentences, at, b'$');
+    print_part(sentences, at, end);
+    if byte_at(sentences, end) != b'$' {
         return end;
     }
-    let index = std::num::wrapping_sub_u8(byte_at(s, forward(end, 2)), b'0');
+    let index = std::num::wrapping_sub_u8(byte_at(sentences, forward(end, 2)), b'0');
     let origin = line.origin;
     print_value(
-        byte_at(s, forward(end, 1)),
+        byte_at(sentences, forward(end, 1)),
         value(line, index as usize),
         origin,
+        s,
     );
     forward(end, 3)
 }
 
 // The sentence of a line's form, with the line's values. No sentence has more than eight of them.
-pub(crate) fn print_line(sentences: &[u8], line: Line) {
+pub(crate) fn print_line(sentences: &[u8], line: Line, s: &[u8]) {
     let mut at = line_start(sentences, line.form);
     for _ in 0..9usize {
-        at = print_piece(sentences, at, line);
+        at = print_piece(sentences, at, line, s);
     }
 }

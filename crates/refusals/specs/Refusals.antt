@@ -77,3 +77,11 @@ noMember = 19
 -- no fresh member to follow
 abbrev pub noneCounted : ℕ
 noneCounted = 20
+
+-- not the grammar of the SDP line
+abbrev pub badLine : ℕ
+badLine = 21
+
+-- more than ten digits, or a value above 4,294,967,294, with the grammar otherwise kept; to the writer, 4,294,967,295
+abbrev pub badGroup : ℕ
+badGroup = 22

@@ -57,3 +57,9 @@ pub const NO_MEMBER: u64 = 19;
 
 // No fresh member to follow.
 pub const NONE_COUNTED: u64 = 20;
+
+// Not the line of a site file that carries a group number.
+pub const BAD_LINE: u64 = 21;
+
+// Such a line, but with more than ten digits or a group number above 4,294,967,294; to the writer, 4,294,967,295.
+pub const BAD_GROUP: u64 = 22;

@@ -1,6 +1,6 @@
 // Prints a line for each case: its name, and then what the writer answered or the bytes of the buffer.
+use buffer::Written;
 use libc::STDOUT_FILENO;
-use writer::Written;
 ghost use Prim.Native.Nat.{_<_};
 
 // An upper-case hex digit, as the bench cases have them; io's are lower-case.

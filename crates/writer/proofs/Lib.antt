@@ -1,4 +1,3 @@
 pub mod Laws
 pub mod WriteRead
 pub mod ReadWrite
-pub mod Refusals

@@ -9,6 +9,8 @@ use lib.ListN.{length, take, drop}
 use lib.Dec.{eqb}
 use native.Mathlib.Omega.{arith}
 use borrow.Author.Tests.{le-ltb, eqb-true, eqb-false, ne-eqb}
+use Rattle.buffer.specs.declared.Written.{Written}
+use Rattle.buffer.specs.Buffer.{written, buffer}
 use Rattle.idms.specs.Rows.{flag}
 use Rattle.idms.specs.declared.Report.{Report}
 use Rattle.idms.specs.declared.Settings.{Settings}
@@ -22,9 +24,8 @@ use Rattle.packet.specs.Settings.{settingsAt}
 use Rattle.rtcp.specs.Puts.{flat}
 use Rattle.rtcp.specs.Answers.{itemOf}
 use Rattle.rtcp.proofs.Laws.ItemPlaces.{ReadFrom, report, setting, farewell, item-read}
-use Rattle.writer.specs.declared.Written.{Written}
 use Rattle.writer.specs.Messages.{bytes32, bytesOf, reportWords, settingsWords}
-use Rattle.writer.specs.Messages.{reportIsUnwritable, settingsAreUnwritable, written, buffer}
+use Rattle.writer.specs.Messages.{reportIsUnwritable, reportMessage, settingsMessage}
 use Rattle.writer.specs.RoundTrip.{part, clearedReport, clearedSettings}
 use Rattle.writer.proofs.Laws.Words.{part-word, wordsAt, words-part, be64-high, be64-low}
 
@@ -169,8 +170,8 @@ pub report-read-write :
     (d buf : List ℕ) (index place : ℕ) (r : Report) → AreBytes d
     → itemOf d index ≡ Found.Item (record { place = place; item = Item.Report r })
     → (r .group ≡ 4294967295 → ⊥) → 40 ≤ length buf
-    → (written (reportIsUnwritable r) (reportWords r) buf ≡ Written.Bytes 40)
-    × (part (buffer (reportIsUnwritable r) (reportWords r) buf) 8 32 ≡ clearedReport d place)
+    → (written (reportMessage r) buf ≡ Written.Bytes 40)
+    × (part (buffer (reportMessage r) buf) 8 32 ≡ clearedReport d place)
 report-read-write d buf index place r h e g l =
     let known : ReadReport d place r = read-report d index place r h e in
     rw (known .group, ne-eqb (r .group) 4294967295 g, le-ltb (length buf) 40 l) (refl, known .block)
@@ -228,8 +229,8 @@ pub settings-read-write :
     (d buf : List ℕ) (index place : ℕ) (s : Settings) → AreBytes d
     → itemOf d index ≡ Found.Item (record { place = place; item = Item.Settings s })
     → (s .group ≡ 4294967295 → ⊥) → 36 ≤ length buf
-    → (written (settingsAreUnwritable s) (settingsWords s) buf ≡ Written.Bytes 36)
-    × (take 36 (buffer (settingsAreUnwritable s) (settingsWords s) buf) ≡ clearedSettings d place)
+    → (written (settingsMessage s) buf ≡ Written.Bytes 36)
+    × (take 36 (buffer (settingsMessage s) buf) ≡ clearedSettings d place)
 settings-read-write d buf index place s h e g l =
     rw (ne-eqb (s .group) 4294967295 g, le-ltb (length buf) 36 l) (refl, found (item-read d index _ e) refl)
   where

@@ -7,6 +7,8 @@ use mathlib.Core.Bool.{Bool, true, false, cond}
 use lib.ListN.{length, take}
 use native.Mathlib.Omega.{arith}
 use borrow.Author.Tests.{le-ltb, ne-eqb}
+use Rattle.buffer.specs.declared.Written.{Written}
+use Rattle.buffer.specs.Buffer.{written, buffer}
 use Rattle.idms.specs.declared.Report.{Report}
 use Rattle.idms.specs.declared.Settings.{Settings}
 use Rattle.idms.specs.declared.Item.{Item}
@@ -19,9 +21,8 @@ use Rattle.packet.specs.Settings.{settingsAt}
 use Rattle.datagram.specs.Datagram.{packetCheck, packetItems, datagramCheck, datagramItems}
 use Rattle.datagram.specs.Answers.{itemCount}
 use Rattle.rtcp.specs.Answers.{itemOf, pick}
-use Rattle.writer.specs.declared.Written.{Written}
 use Rattle.writer.specs.Messages.{bytesOf, reportWords, settingsWords}
-use Rattle.writer.specs.Messages.{reportIsUnwritable, settingsAreUnwritable, written, buffer}
+use Rattle.writer.specs.Messages.{reportIsUnwritable, reportMessage, settingsMessage}
 use Rattle.writer.specs.RoundTrip.{behindRR, GivesOne, ReportFits, SettingsFit}
 use Rattle.writer.proofs.Laws.Messages.{writable, writable-presented}
 use Rattle.writer.proofs.Laws.Words.{spelt, spelt-word, spelt-halves}
@@ -89,8 +90,8 @@ same-report r fits h =
 -- answers that it wrote 40 bytes, and the buffer's first 40 give exactly one item, with these fields.
 pub report-write-read :
     (r : Report) (buf : List ℕ) (ssrc : ℕ) → ReportFits r → reportIsUnwritable r ≡ false → 40 ≤ length buf
-    → (written (reportIsUnwritable r) (reportWords r) buf ≡ Written.Bytes 40)
-    × GivesOne (behindRR ssrc (take 40 (buffer (reportIsUnwritable r) (reportWords r) buf)))
+    → (written (reportMessage r) buf ≡ Written.Bytes 40)
+    × GivesOne (behindRR ssrc (take 40 (buffer (reportMessage r) buf)))
     (record { place = 16; item = Item.Report r })
 unfolding reportIn
 report-write-read r buf ssrc fits h l =
@@ -133,8 +134,8 @@ same-settings s fits =
 -- The same of settings: 36 bytes, for every group but 4,294,967,295.
 pub settings-write-read :
     (s : Settings) (buf : List ℕ) (ssrc : ℕ) → SettingsFit s → (s .group ≡ 4294967295 → ⊥) → 36 ≤ length buf
-    → (written (settingsAreUnwritable s) (settingsWords s) buf ≡ Written.Bytes 36)
-    × GivesOne (behindRR ssrc (take 36 (buffer (settingsAreUnwritable s) (settingsWords s) buf)))
+    → (written (settingsMessage s) buf ≡ Written.Bytes 36)
+    × GivesOne (behindRR ssrc (take 36 (buffer (settingsMessage s) buf)))
     (record { place = 8; item = Item.Settings s })
 settings-write-read s buf ssrc fits g l =
     let walked : _ = walk-settings s ssrc in

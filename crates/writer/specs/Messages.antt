@@ -1,17 +1,15 @@
--- The two messages as words, word by word as the layouts of packet's Report and Settings have them, and what a writer
--- answers and leaves in the buffer.
+-- The two messages as words, word by word as the layouts of packet's Report and Settings have them, and when they are
+-- refused.
 use Prim.Native.Nat.{ℕ, _+_, _*_, _/_, _%_, _^_}
-use mathlib.Core.Path.{_≡_}
-use mathlib.Core.List.{List, [], _∷_, _++_}
-use mathlib.Core.Bool.{Bool, not, cond, _&&_, _||_}
-use lib.ListN.{length, drop}
+use mathlib.Core.List.{List, [], _∷_}
+use mathlib.Core.Bool.{Bool, not, _&&_, _||_}
 use lib.Dec.{ltb, eqb}
 use Rattle.idms.specs.Rows.{flag}
 use Rattle.idms.specs.declared.Report.{Report}
 use Rattle.idms.specs.declared.Settings.{Settings}
-use Rattle.refusals.specs.Refusals.{shortBuffer, outOfRange}
+use Rattle.refusals.specs.Refusals.{outOfRange}
+use Rattle.buffer.specs.Buffer.{Message}
 use Rattle.rtcp.specs.Puts.{flat}
-use Rattle.writer.specs.declared.Written.{Written}
 
 -- a word's bytes, the most significant first
 abbrev pub bytes32 : ℕ → List ℕ
@@ -60,19 +58,11 @@ reportIsUnwritable r =
 abbrev pub settingsAreUnwritable : Settings → Bool
 settingsAreUnwritable s = eqb (s .group) 4294967295
 
--- The answer for a message of these words: 11 before 10, then how many bytes were written.
-abbrev pub written : Bool → List ℕ → List ℕ → Written
-written unwritable words buf =
-    cond unwritable (Written.Refused outOfRange)
-    (cond (ltb (length buf) (4 * length words)) (Written.Refused shortBuffer) (Written.Bytes (4 * length words)))
+-- The two messages as their writers are asked to write them: 11 where they may not be written.
+abbrev pub reportMessage : Report → Message
+reportMessage r =
+    record { unwritable = reportIsUnwritable r; number = outOfRange; bytes = bytesOf (reportWords r) }
 
--- The buffer afterwards: as before on a refusal; else the message, and behind it what was there.
-abbrev pub buffer : Bool → List ℕ → List ℕ → List ℕ
-buffer unwritable words buf =
-    cond unwritable buf
-    (cond (ltb (length buf) (4 * length words)) buf (bytesOf words ++ drop (4 * length words) buf))
-
--- What a writer has done with a buffer: its answer, and the buffer afterwards.
-abbrev pub WroteMessage : Bool → List ℕ → List ℕ → Written → List ℕ → Type 0
-WroteMessage unwritable words buf answer buf′ =
-    (answer ≡ written unwritable words buf) × (buf′ ≡ buffer unwritable words buf)
+abbrev pub settingsMessage : Settings → Message
+settingsMessage s =
+    record { unwritable = settingsAreUnwritable s; number = outOfRange; bytes = bytesOf (settingsWords s) }

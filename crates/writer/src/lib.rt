@@ -1,4 +1,5 @@
 // Writes the two IDMS messages (RFC 7272) to the front of a lent buffer.
+use buffer::Written;
 use idms::Report;
 use idms::Settings;
 use refusals::OUT_OF_RANGE;
@@ -8,15 +9,10 @@ ghost use mathlib.Core.Path.{_≡_};
 ghost use Prim.Native.Nat.{_+_, _*_, _≤_, _<_};
 ghost use lib.ListN.{length};
 ghost use lib.Seq.{paste};
+ghost use Rattle.buffer.specs.Buffer.{WroteMessage};
 ghost use Rattle.rtcp.specs.Puts.{puts};
 ghost use Rattle.writer.specs.Messages.{bytes32, reportWords, settingsWords};
-ghost use Rattle.writer.specs.Messages.{reportIsUnwritable, settingsAreUnwritable, WroteMessage};
-
-// What a writer answers: how many bytes it wrote, or the number of its refusal.
-pub enum Written {
-    Bytes(usize),
-    Refused(u64),
-}
+ghost use Rattle.writer.specs.Messages.{reportIsUnwritable, reportMessage, settingsMessage};
 
 // A word with its bytes in the opposite order: one instruction. The compiler joins the four stores of `put_word` where
 // they take the bytes of a word from the least significant on, and not the other way round.
@@ -106,7 +102,7 @@ fn is_unwritable(r: Report) -> bool
 
 // Writes an XR packet of 40 bytes with one report block, or refuses with 11, then 10, and writes nothing.
 pub fn write_report(r: Report, buf: &mut [u8]) -> Written
-    ensures { λ w. ⌜ WroteMessage (reportIsUnwritable r) (reportWords r) (now (buf .entry)) w (now (buf .exit)) ⌝ }
+    ensures { λ w. ⌜ WroteMessage (reportMessage r) (now (buf .entry)) w (now (buf .exit)) ⌝ }
 {
     let out = is_unwritable(r);
     let short = buf.len() < 40;
@@ -123,7 +119,7 @@ pub fn write_report(r: Report, buf: &mut [u8]) -> Written
 
 // Writes a settings packet of 36 bytes, or refuses with 11, then 10, and writes nothing.
 pub fn write_settings(s: Settings, buf: &mut [u8]) -> Written
-    ensures { λ w. ⌜ WroteMessage (settingsAreUnwritable s) (settingsWords s) (now (buf .entry)) w (now (buf .exit)) ⌝ }
+    ensures { λ w. ⌜ WroteMessage (settingsMessage s) (now (buf .entry)) w (now (buf .exit)) ⌝ }
 {
     if s.group == 4294967295 {
         return Written::Refused(OUT_OF_RANGE);

@@ -2,7 +2,7 @@
 use native.Mathlib.Omega.{arith}
 use borrow.Author.Needs.{needs}
 use Rattle.prunepocket.proofs.Laws.{out-by-payload, out-by-p, wrote-nothing, wrote-report}
-use Rattle.prunepocket.specs.Messages.{reportOf}
+use Rattle.prunepocket.specs.Messages.{reportOf, reportMessageWithP}
 use Rattle.prunepocket.proofs.prunepocket_write_report.Statement.{statement}
 use Rattle.prunepocket.proofs.prunepocket_write_report.Tie as tie
 
@@ -10,13 +10,13 @@ returns : tie.Need-returns
 returns c =
     let a = c .before .before .args in
     let r = reportOf (a .sender) (a .payload-type) (a .p) (a .group) (a .media) (a .received) (a .rtp) (a .presented) in
-    wrote-nothing _ _ _ _ (out-by-payload (a .p) r (c .if1 .taken))
+    wrote-nothing (reportMessageWithP (a .p) r) _ _ (out-by-payload (a .p) r (c .if1 .taken))
 
 returns-2 : tie.Need-returns-2
 returns-2 c =
     let a = c .before .before .before .args in
     let r = reportOf (a .sender) (a .payload-type) (a .p) (a .group) (a .media) (a .received) (a .rtp) (a .presented) in
-    wrote-nothing _ _ _ _ (out-by-p (a .p) r (c .if2 .taken))
+    wrote-nothing (reportMessageWithP (a .p) r) _ _ (out-by-p (a .p) r (c .if2 .taken))
 
 cast-t14 : tie.Need-cast-t14
 cast-t14 c = search needs

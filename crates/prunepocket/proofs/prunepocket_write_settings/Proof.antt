@@ -18,7 +18,7 @@ same-length c = search needs
 
 returns : tie.Need-returns
 returns c =
-    wrote _ _ _ _ _ _ _ _ (c .before .before .before .before .before .write-settings .ensures)
+    wrote _ _ _ _ _ _ _ (c .before .before .before .before .before .write-settings .ensures)
     (c .answer-write .ensures) (c .before .bytes-written .ensures)
 
 pub prunepocket-write-settings-spec : {M : Type 1} → statement M

@@ -1,5 +1,5 @@
--- Laws of the messages' bytes, and of a writer's answer and buffer by what was checked.
-use Prim.Native.Nat.{ℕ, _+_, _*_, _≤_, _<_}
+-- Laws of the messages' bytes, and of the fields that may be written.
+use Prim.Native.Nat.{ℕ, _+_, _≤_, _<_}
 use mathlib.Core.Path.{_≡_, refl}
 use mathlib.Core.List.{List, [], _∷_}
 use mathlib.Core.Bool.{Bool, true, false, not, _&&_, _||_}
@@ -9,14 +9,10 @@ use lib.Seq.{paste, sets-eq}
 use native.Mathlib.Numerals.{add-one, add-two, add-three}
 use native.Mathlib.Omega.{arith}
 use lib.Dec.{ltb, eqb}
-use borrow.Author.Tests.{lt-ltb, le-ltb, ltb-false, eqb-true, not-false}
+use borrow.Author.Tests.{ltb-false, eqb-true, not-false}
 use mir.Val.{boolByte}
 use Rattle.idms.specs.declared.Report.{Report}
-use Rattle.refusals.specs.Refusals.{shortBuffer, outOfRange}
-use Rattle.rtcp.specs.Puts.{puts}
-use Rattle.rtcp.proofs.Laws.Puts.{puts-front}
-use Rattle.writer.specs.declared.Written.{Written}
-use Rattle.writer.specs.Messages.{bytes32, reportIsUnwritable, WroteMessage}
+use Rattle.writer.specs.Messages.{bytes32, reportIsUnwritable}
 
 -- ---- bytes32
 
@@ -32,23 +28,6 @@ four-stores l at a b c d h = rw (add-one at, add-two at, add-three at) (sets-eq 
 pub flag-bound : (t : Bool) → boolByte t ≤ 1
 flag-bound true = omega arith
 flag-bound false = omega arith
-
--- ---- written and buffer
-
-module _ (unwritable : Bool) (words buf : List ℕ) where
-  pub message-refused : unwritable ≡ true → WroteMessage unwritable words buf (Written.Refused outOfRange) buf
-  message-refused e = rw e (refl, refl)
-
-  module _ (e : unwritable ≡ false) where
-    pub message-short :
-        length buf < 4 * length words → WroteMessage unwritable words buf (Written.Refused shortBuffer) buf
-    message-short h = rw (e, lt-ltb (length buf) (4 * length words) h) (refl, refl)
-
-    pub message-written :
-        4 * length words ≤ length buf
-        → WroteMessage unwritable words buf (Written.Bytes (4 * length words)) (puts bytes32 4 buf 0 words)
-    message-written h =
-        rw (e, le-ltb (length buf) (4 * length words) h) (refl, puts-front bytes32 4 length-bytes32 words buf h)
 
 -- ---- reportIsUnwritable
 

@@ -1,12 +1,15 @@
 -- 11 before 10, then the message at the front: each return has the law of its case.
+use Prim.Native.Nat.{_≤_}
 use mathlib.Core.Path.{sym, ap, _∙_}
 use native.Mathlib.Omega.{arith}
 use lib.ListN.{length}
 use borrow.Author.Needs.{needs}
 use borrow.Author.Tests.{ltb-true, ltb-false}
+use Rattle.buffer.proofs.Laws.{message-refused, message-short, message-written}
 use Rattle.rtcp.specs.Puts.{puts}
-use Rattle.writer.proofs.Laws.Messages.{message-refused, message-short, message-written, writable}
-use Rattle.writer.specs.Messages.{bytes32, reportIsUnwritable, reportWords}
+use Rattle.rtcp.proofs.Laws.Puts.{puts-front}
+use Rattle.writer.proofs.Laws.Messages.{length-bytes32, writable}
+use Rattle.writer.specs.Messages.{bytes32, reportWords, reportMessage}
 use Rattle.writer.proofs.write_report.Statement.{statement}
 use Rattle.writer.proofs.write_report.Tie as tie
 
@@ -17,13 +20,13 @@ returns : tie.Need-returns
 returns c =
     let b = c .before in
     let args = b .before .before .args in
-    message-refused _ (reportWords (args .r)) (args .buf .now) (sym (b .is-unwritable .ensures) ∙ c .if1 .taken)
+    message-refused (reportMessage (args .r)) (args .buf .now) (sym (b .is-unwritable .ensures) ∙ c .if1 .taken)
 
 returns-2 : tie.Need-returns-2
 returns-2 c =
     let b = c .before in
     let args = b .before .before .before .args in
-    message-short _ (reportWords (args .r)) (args .buf .now) (sym (b .before .is-unwritable .ensures) ∙ b .if1 .left)
+    message-short (reportMessage (args .r)) (args .buf .now) (sym (b .before .is-unwritable .ensures) ∙ b .if1 .left)
     (ltb-true _ 40 (c .if2 .taken))
 
 words-of-report-requires : tie.Need-words-of-report-requires
@@ -49,10 +52,16 @@ returns-3 c =
     let made = put .before .before .before in
     let b = made .before .before in
     let args = b .before .before .before .args in
+    let buf = args .buf .now in
+    let room : 40 ≤ length buf = ltb-false _ 40 (made .before .if2 .left) in
     let m : _ =
-    message-written _ (reportWords (args .r)) (args .buf .now) (sym (b .before .is-unwritable .ensures) ∙ b .if1 .left)
-    (ltb-false _ 40 (made .before .if2 .left)) in
-    (m .0, put .put-words .ensures ∙ ap (puts bytes32 4 (args .buf .now) 0) (made .words-of-report .ensures) ∙ m .1)
+    message-written (reportMessage (args .r)) buf (sym (b .before .is-unwritable .ensures) ∙ b .if1 .left) room in (
+      m .0,
+      put .put-words .ensures
+          ∙ ap (puts bytes32 4 buf 0) (made .words-of-report .ensures)
+          ∙ puts-front bytes32 4 length-bytes32 (reportWords (args .r)) buf room
+          ∙ m .1,
+    )
 
 pub write-report-spec : {M : Type 1} → statement M
 write-report-spec =

@@ -2,22 +2,24 @@
 use mathlib.Core.Path.{ap, _∙_}
 use borrow.Author.Needs.{needs}
 use borrow.Author.Tests.{eq-eqb, ne-eqb}
+use Rattle.buffer.proofs.Laws.{message-refused, message-short, message-written}
 use Rattle.rtcp.specs.Puts.{puts}
-use Rattle.writer.proofs.Laws.Messages.{message-refused, message-short, message-written}
-use Rattle.writer.specs.Messages.{bytes32, settingsAreUnwritable, settingsWords}
+use Rattle.rtcp.proofs.Laws.Puts.{puts-front}
+use Rattle.writer.proofs.Laws.Messages.{length-bytes32}
+use Rattle.writer.specs.Messages.{bytes32, settingsWords, settingsMessage}
 use Rattle.writer.proofs.write_settings.Statement.{statement}
 use Rattle.writer.proofs.write_settings.Tie as tie
 
 returns : tie.Need-returns
 returns c =
     let args = c .before .before .before .args in
-    message-refused _ (settingsWords (args .s)) (args .buf .now) (eq-eqb _ _ (c .if1 .taken))
+    message-refused (settingsMessage (args .s)) (args .buf .now) (eq-eqb _ _ (c .if1 .taken))
 
 returns-2 : tie.Need-returns-2
 returns-2 c =
     let b = c .before in
     let args = b .before .before .before .args in
-    message-short _ (settingsWords (args .s)) (args .buf .now) (ne-eqb _ _ (b .if1 .left)) (c .if2 .taken)
+    message-short (settingsMessage (args .s)) (args .buf .now) (ne-eqb _ _ (b .if1 .left)) (c .if2 .taken)
 
 words-of-settings-requires : tie.Need-words-of-settings-requires
 words-of-settings-requires c κs = search needs
@@ -37,10 +39,15 @@ returns-3 c =
     let made = put .before .before .before in
     let b = made .before .before in
     let args = b .before .before .before .args in
-    let m : _ =
-    message-written _ (settingsWords (args .s)) (args .buf .now) (ne-eqb _ _ (b .if1 .left))
-    (made .before .if2 .left) in
-    (m .0, put .put-words .ensures ∙ ap (puts bytes32 4 (args .buf .now) 0) (made .words-of-settings .ensures) ∙ m .1)
+    let buf = args .buf .now in
+    let room = made .before .if2 .left in
+    let m : _ = message-written (settingsMessage (args .s)) buf (ne-eqb _ _ (b .if1 .left)) room in (
+      m .0,
+      put .put-words .ensures
+          ∙ ap (puts bytes32 4 buf 0) (made .words-of-settings .ensures)
+          ∙ puts-front bytes32 4 length-bytes32 (settingsWords (args .s)) buf room
+          ∙ m .1,
+    )
 
 pub write-settings-spec : {M : Type 1} → statement M
 write-settings-spec =

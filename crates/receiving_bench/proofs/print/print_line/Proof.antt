@@ -5,10 +5,10 @@ use Rattle.receiving_bench.proofs.print.print_line.Statement.{statement
 use Rattle.receiving_bench.proofs.print.print_line.Tie as tie
 
 abbrev Inv-loop : tie.InvT-loop
-Inv-loop sentences line at₀ counter₀ at counter = Unit
+Inv-loop sentences line s at₀ counter₀ at counter = Unit
 
 abbrev μ-loop : tie.MeasureT-loop
-μ-loop sentences line at₀ counter₀ at counter = 9 - counter
+μ-loop sentences line s at₀ counter₀ at counter = 9 - counter
 
 line-start-requires : tie.Need-line-start-requires Inv-loop μ-loop
 line-start-requires c κs = search needs
