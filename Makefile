@@ -1,6 +1,6 @@
 # make test     every check, as .ci/run does
 # make run      the receiving bench: the papers' cases and the twins, each with what was expected and what came
-# make show     shows the items of the sample datagram
+# make show     shows the items of the sample datagrams
 # make archive  target/staticlib/libprunepocket.a, for C or Rust to link
 # make install  header, archive and pkg-config file under PREFIX, by way of DESTDIR
 # make host     the example host, on the loopback
@@ -29,6 +29,7 @@ run:
 show:
 	rt check show_datagram
 	target/bin/show_datagram < samples/compound.bin
+	target/bin/show_datagram --reduced-size < samples/reduced.bin
 
 archive:
 	tools/archive

@@ -1,7 +1,8 @@
 /*
  * A small host around libprunepocket.a: a synchronization server on UDP, over the loopback. Its
  * loudspeakers are simulated here too, by sockets of their own. Two of them bear one source number,
- * as twins do, and differ in their ports alone.
+ * as twins do, and differ in their ports alone. One is a battery unit, which sends each message
+ * alone: reduced-size RTCP (RFC 5506).
  *
  * The host files what each datagram holds, then sends the target back to the datagram's sender.
  * Everything is printed: what was sent, the answers, the members, the target, and the settings that
@@ -26,8 +27,12 @@
 #include <sys/socket.h>
 #include <unistd.h>
 
-/* What the host is told of its stream. One line names the group, which the loudspeakers know. */
+/*
+ * What the host is told of its stream. One line names the group, which the loudspeakers know, and
+ * one says that reduced-size RTCP was agreed.
+ */
 static const char site_file[] = "m=audio 5004 RTP/AVP 33\r\n"
+                                "a=rtcp-rsize\r\n"
                                 "a=rtcp-idms:sync-group=42\r\n";
 
 #define GROUP 42
@@ -51,7 +56,7 @@ static const char site_file[] = "m=audio 5004 RTP/AVP 33\r\n"
 /* An item takes a word or more, so rows for so many are never too few. */
 #define MOST_ITEMS (LONGEST / 4)
 
-/* Bytes of the RR and the SDES that stand before every message. */
+/* Bytes of the RR and the SDES that stand before every message but a battery unit's. */
 #define FRONT 28
 
 /* ---- Sockets --------------------------------------------------------------------------------- */
@@ -272,6 +277,7 @@ static void show_answer(FILE *out, const uint64_t *row, uint64_t number)
 
 struct host {
     int socket;
+    uint32_t reduced_size; /* 1 where reduced-size RTCP was agreed, else 0 */
     struct prunepocket_table table;
     FILE *out;
 };
@@ -317,19 +323,19 @@ static struct prunepocket_answered take_item(struct prunepocket_table table, con
 }
 
 /* Files the items of a whole datagram, in their order. A refused item does not stop the rest. */
-static void take_datagram(struct prunepocket_table *table, const uint8_t *datagram, size_t length,
+static void take_datagram(struct host *host, const uint8_t *datagram, size_t length,
                           struct prunepocket_origin origin, struct prunepocket_reading reading,
                           struct taken *taken)
 {
     taken->items = 0;
-    taken->answer = prunepocket_read_items(datagram, length, taken->rows,
+    taken->answer = prunepocket_read_items(datagram, length, host->reduced_size, taken->rows,
                                            MOST_ITEMS * PRUNEPOCKET_ROW, &taken->items);
     for (uint64_t i = 0; i < taken->items; i++) {
         struct prunepocket_answered answered =
-            take_item(*table, taken->rows + i * PRUNEPOCKET_ROW, origin, reading);
+            take_item(host->table, taken->rows + i * PRUNEPOCKET_ROW, origin, reading);
 
         /* After a refusal it is the table that was passed, so it is taken in every case. */
-        *table = answered.table;
+        host->table = answered.table;
         taken->answers[i] = answered.number;
     }
 }
@@ -343,17 +349,24 @@ static void show_taken(FILE *out, const struct taken *taken)
         show_answer(out, taken->rows + i * PRUNEPOCKET_ROW, taken->answers[i]);
 }
 
+/* The bytes of a text's first line, LF included. */
+static size_t line_length(const char *text)
+{
+    size_t length = strcspn(text, "\n");
+
+    return length + (text[length] == '\n');
+}
+
 /* The group that a site file names, or 0, for which no table opens. */
 static uint32_t group_of(const char *text)
 {
     uint32_t group = 0;
 
     while (*text != '\0') {
-        size_t length = strcspn(text, "\n");
-        uint64_t number;
+        size_t length = line_length(text);
+        uint64_t number =
+            prunepocket_read_sync_group((const uint8_t *)text, length, &group).number;
 
-        length += text[length] == '\n';
-        number = prunepocket_read_sync_group((const uint8_t *)text, length, &group).number;
         /* 21 says that it is another line, 22 that its group cannot be used. */
         if (number != PRUNEPOCKET_BAD_LINE)
             must_be_accepted("the group's line", number);
@@ -362,13 +375,30 @@ static uint32_t group_of(const char *text)
     return group;
 }
 
+/* 1 where a site file has the line that stands for reduced-size RTCP, else 0. */
+static uint32_t reduced_size_of(const char *text)
+{
+    static const char line[] = "a=rtcp-rsize\r\n";
+
+    for (; *text != '\0'; text += line_length(text)) {
+        if (strncmp(text, line, strlen(line)) == 0)
+            return 1;
+    }
+    return 0;
+}
+
 static struct host open_host(int family, FILE *out)
 {
     struct prunepocket_answered opened = prunepocket_open(group_of(site_file), MEDIA, RATE);
 
     /* Refused, opening gives no table: look at the number before the table is used. */
     must_be_accepted("opening", opened.number);
-    return (struct host){.socket = open_socket(family), .table = opened.table, .out = out};
+    return (struct host){
+        .socket = open_socket(family),
+        .reduced_size = reduced_size_of(site_file),
+        .table = opened.table,
+        .out = out,
+    };
 }
 
 /* The target goes out as it was chosen: a stale one would ask a loudspeaker for the impossible. */
@@ -411,7 +441,7 @@ static void serve(struct host *host, struct prunepocket_reading reading, struct 
     size_t length = receive(host->socket, datagram, sizeof datagram, &from);
     struct prunepocket_followed followed;
 
-    take_datagram(&host->table, datagram, length, origin_of(&from), reading, taken);
+    take_datagram(host, datagram, length, origin_of(&from), reading, taken);
     show_taken(host->out, taken);
     followed = choose(host, reading);
     if (followed.number == PRUNEPOCKET_ACCEPTED)
@@ -433,18 +463,20 @@ struct unit {
     uint64_t received;
     uint32_t rtp;
     uint64_t presented;
+    bool on_battery; /* whether it sends its messages alone */
 };
 
-enum { STAND, RING, TWIN, UNITS, NOBODY = UNITS };
+enum { STAND, RING, TWIN, BATTERY, UNITS, NOBODY = UNITS };
 
 /*
- * At the reading below they are late by 0.5, 0.75 and 0.875 s; stand and ring are the papers' P1
+ * At the reading below they are late by 0.5, 0.75, 0.875 and 1 s; stand and ring are the papers' P1
  * and P2. So the ring's twin would be followed as soon as its report was filed.
  */
 static const struct unit units[UNITS] = {
-    [STAND] = {"stand", 10, SECONDS(999), 8910000, SECONDS_AND(999, 500)},
-    [RING] = {"ring", 20, SECONDS(998), 8820000, SECONDS_AND(998, 750)},
-    [TWIN] = {"twin", 20, SECONDS(999), 8910000, SECONDS_AND(999, 875)},
+    [STAND] = {"stand", 10, SECONDS(999), 8910000, SECONDS_AND(999, 500), false},
+    [RING] = {"ring", 20, SECONDS(998), 8820000, SECONDS_AND(998, 750), false},
+    [TWIN] = {"twin", 20, SECONDS(999), 8910000, SECONDS_AND(999, 875), false},
+    [BATTERY] = {"battery", 30, SECONDS(997), 8730000, SECONDS(998), true},
 };
 
 /* Simulated readings of the sender's clock. A host takes one as each datagram arrives. */
@@ -468,28 +500,32 @@ static size_t put_report(uint8_t *bytes, const struct unit *unit)
 static void send_message(FILE *out, int fd, const struct unit *unit, enum message message)
 {
     uint8_t datagram[FRONT + PRUNEPOCKET_REPORT_BYTES];
-    size_t length = FRONT;
+    size_t length = 0;
 
-    put_front(datagram, unit->source);
+    if (!unit->on_battery) {
+        put_front(datagram, unit->source);
+        length = FRONT;
+    }
     if (message == FAREWELL)
-        length += put_farewell(datagram + FRONT, unit->source);
+        length += put_farewell(datagram + length, unit->source);
     else
-        length += put_report(datagram + FRONT, unit);
+        length += put_report(datagram + length, unit);
     if (message == CUT_REPORT)
         length -= 4;
-    fprintf(out, "%s sends a %s of %" PRIu32 "%s\n", unit->name,
+    fprintf(out, "%s sends a %s of %" PRIu32 "%s%s\n", unit->name,
             message == FAREWELL ? "farewell" : "report", unit->source,
-            message == CUT_REPORT ? ", its last word lost" : "");
+            unit->on_battery ? ", alone" : "", message == CUT_REPORT ? ", its last word lost" : "");
     if (send(fd, datagram, length, 0) < 0)
         die("sending a message");
 }
 
 /* Reads a datagram whose only item is settings into its row. */
-static bool read_settings(const uint8_t *datagram, size_t length, uint64_t row[PRUNEPOCKET_ROW])
+static bool read_settings(const uint8_t *datagram, size_t length, uint32_t reduced_size,
+                          uint64_t row[PRUNEPOCKET_ROW])
 {
     uint64_t items = 0;
     struct prunepocket_answer answer =
-        prunepocket_read_items(datagram, length, row, PRUNEPOCKET_ROW, &items);
+        prunepocket_read_items(datagram, length, reduced_size, row, PRUNEPOCKET_ROW, &items);
 
     return answer.number == PRUNEPOCKET_ACCEPTED && items == 1 &&
            row[PRUNEPOCKET_FIELD_KIND] == PRUNEPOCKET_SETTINGS;
@@ -533,6 +569,8 @@ static const struct step steps[] = {
     {TWIN, FAREWELL, {PRUNEPOCKET_OTHER_ORIGIN, 0}, 2, RING},
     {RING, FAREWELL, {PRUNEPOCKET_ACCEPTED, 0}, 1, STAND},
     {TWIN, REPORT, {PRUNEPOCKET_ACCEPTED, 0}, 2, TWIN},
+    {BATTERY, REPORT, {PRUNEPOCKET_ACCEPTED, 0}, 3, BATTERY},
+    {BATTERY, FAREWELL, {PRUNEPOCKET_ACCEPTED, 0}, 2, TWIN},
 };
 
 /* Either the datagram is refused, at its place, or its only item gets the number. */
@@ -559,8 +597,11 @@ static void expect_settings(const uint64_t *row, const struct unit *followed)
     expect(row[PRUNEPOCKET_FIELD_PRESENTED] == followed->presented, "the settings' presented time");
 }
 
-/* The loudspeaker reads the host's answer, and looks for none where nobody is followed. */
-static void get_settings(FILE *out, int fd, const struct step *step)
+/*
+ * The loudspeaker reads the host's answer, and looks for none where nobody is followed. What was
+ * agreed it knows as the host does, from the SDP.
+ */
+static void get_settings(FILE *out, int fd, uint32_t reduced_size, const struct step *step)
 {
     uint8_t datagram[LONGEST + 1];
     uint64_t row[PRUNEPOCKET_ROW];
@@ -573,7 +614,7 @@ static void get_settings(FILE *out, int fd, const struct step *step)
         return;
     }
     length = receive(fd, datagram, sizeof datagram, &from);
-    if (!read_settings(datagram, length, row)) {
+    if (!read_settings(datagram, length, reduced_size, row)) {
         expect(false, "settings as the only item");
         return;
     }
@@ -591,7 +632,7 @@ static void take_step(struct host *host, const int *sockets, const struct step *
     serve(host, now, &taken);
     expect_taken(&taken, step->due);
     expect(prunepocket_count_members(host->table) == step->members, "how many members there are");
-    get_settings(host->out, sockets[step->from], step);
+    get_settings(host->out, sockets[step->from], host->reduced_size, step);
 }
 
 static void fall_silent(struct host *host)

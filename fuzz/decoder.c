@@ -1,13 +1,16 @@
 #include "decoder.h"
 
-#include <stdbool.h>
-
 /*
  * A fault to be planted, which the comparison must then find:
  * 1: padding may take a whole packet, its header too
  * 2: check 7 comes before check 6
  * 3: presented is read where P is 0
  * 4: a datagram may have 2,052 bytes
+ * 5: 4 is given at reduced size too
+ * 6: 4 is never given
+ * 7: at reduced size the first packet may be padded where it is the last
+ * 8: the flag is turned round
+ * 9: at reduced size a first packet of type 200 or 201 may have any content
  */
 #ifndef DECODER_FAULT
 #define DECODER_FAULT 0
@@ -127,7 +130,26 @@ static bool take_blocks(const uint8_t *datagram, size_t place, size_t content, s
     return true;
 }
 
-void decode(const uint8_t *datagram, size_t length, struct decoded *decoded)
+/* Whether the first packet may be of a type. */
+static bool may_be_first(uint8_t type, bool reduced_size)
+{
+    switch (DECODER_FAULT) {
+    case 5:
+        reduced_size = false;
+        break;
+    case 6:
+        reduced_size = true;
+        break;
+    case 8:
+        reduced_size = !reduced_size;
+        break;
+    default:
+        break;
+    }
+    return reduced_size || type == SR || type == RR;
+}
+
+void decode(const uint8_t *datagram, size_t length, bool reduced_size, struct decoded *decoded)
 {
     decoded->refusal = 0;
     decoded->place = 0;
@@ -157,18 +179,20 @@ void decode(const uint8_t *datagram, size_t length, struct decoded *decoded)
             bool last = place + bytes == length;
             size_t padding = packet[bytes - 1];
             size_t most = DECODER_FAULT == 1 ? bytes : bytes - HEADER;
+            bool first = place == 0 && !(DECODER_FAULT == 7 && reduced_size);
 
-            if (place == 0 || !last || padding == 0 || padding % 4 != 0 || padding > most) {
+            if (first || !last || padding == 0 || padding % 4 != 0 || padding > most) {
                 refuse(decoded, 3, place);
                 return;
             }
             content -= padding;
         }
-        if (place == 0 && type != SR && type != RR) {
+        if (place == 0 && !may_be_first(type, reduced_size)) {
             refuse(decoded, 4, place);
             return;
         }
-        if (!content_fits(type, count, content)) {
+        bool unchecked = DECODER_FAULT == 9 && reduced_size && place == 0 && (type == SR || type == RR);
+        if (!unchecked && !content_fits(type, count, content)) {
             refuse(decoded, 5, place);
             return;
         }

@@ -1,10 +1,11 @@
 /*
- * A decoder of RTCP datagrams for IDMS matter, written from document 01 alone.
+ * A decoder of RTCP datagrams for IDMS matter, written from documents 01 and 02 (E2) alone.
  * It shares no code with the archive that it is compared with.
  */
 #ifndef FUZZ_DECODER_H
 #define FUZZ_DECODER_H
 
+#include <stdbool.h>
 #include <stddef.h>
 #include <stdint.h>
 
@@ -35,6 +36,7 @@ struct decoded {
     struct item items[MOST_ITEMS];
 };
 
-void decode(const uint8_t *datagram, size_t length, struct decoded *decoded);
+/* reduced_size: whether reduced size was agreed. */
+void decode(const uint8_t *datagram, size_t length, bool reduced_size, struct decoded *decoded);
 
 #endif

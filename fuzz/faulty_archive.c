@@ -1,6 +1,6 @@
 /*
  * An archive with a planted fault: each function here stands before the archive's own (the linker's --wrap), calls it
- * and then does wrong. The comparison must see it, though the archive is not instrumented.
+ * and then does wrong, or tells it something else. The comparison must see it, though the archive is not instrumented.
  *
  * 1: a number before the rows is written
  * 2: a number behind the last row is written, in an array that has it
@@ -20,19 +20,48 @@
  * 16: the buffer is written though it is too short
  * 17: the number of bytes is written though the group is refused
  * 18: the last byte of a buffer that is longer than the line is written
+ * 19: read_items gives 4 at reduced size too
+ * 20: read_items never gives 4
+ * 21: the flag of read_items is turned round
+ * 22: read_items passes over the first packet's P at reduced size
+ * 23: count_items does not pass the flag on
+ * 24: item_field does not pass the flag on
+ * 25: take_datagram does not pass the flag on
+ * 26: take_datagram never gives 4
+ * 27: the flag of take_datagram is turned round
+ * 28: take_datagram passes over the first packet's P at reduced size
+ * 29: count_items looks at the flag's last bit alone, so that 2 is not agreed
+ * 30: item_field looks at the flag's last byte alone, so that 256 is not agreed
+ * 31: take_datagram takes 1 alone for agreed
  */
 #include "prunepocket.h"
+
+#include <string.h>
 
 #ifndef ARCHIVE_FAULT
 #define ARCHIVE_FAULT 0
 #endif
 
-struct prunepocket_answer __real_prunepocket_read_items(const uint8_t *, size_t, uint64_t *, size_t, uint64_t *);
-struct prunepocket_answer __wrap_prunepocket_read_items(const uint8_t *, size_t, uint64_t *, size_t, uint64_t *);
+struct prunepocket_answer __real_prunepocket_count_items(const uint8_t *, size_t, uint32_t, uint64_t *);
+struct prunepocket_answer __wrap_prunepocket_count_items(const uint8_t *, size_t, uint32_t, uint64_t *);
+struct prunepocket_answer __real_prunepocket_item_field(const uint8_t *, size_t, uint32_t, uint64_t, uint64_t,
+                                                        uint64_t *);
+struct prunepocket_answer __wrap_prunepocket_item_field(const uint8_t *, size_t, uint32_t, uint64_t, uint64_t,
+                                                        uint64_t *);
+struct prunepocket_answer __real_prunepocket_read_items(const uint8_t *, size_t, uint32_t, uint64_t *, size_t,
+                                                        uint64_t *);
+struct prunepocket_answer __wrap_prunepocket_read_items(const uint8_t *, size_t, uint32_t, uint64_t *, size_t,
+                                                        uint64_t *);
 struct prunepocket_answered __real_prunepocket_report(struct prunepocket_table, struct prunepocket_record,
                                                       struct prunepocket_reading);
 struct prunepocket_answered __wrap_prunepocket_report(struct prunepocket_table, struct prunepocket_record,
                                                       struct prunepocket_reading);
+struct prunepocket_datagram_answered
+__real_prunepocket_take_datagram(struct prunepocket_table, const uint8_t *, size_t, uint32_t, struct prunepocket_origin,
+                                 struct prunepocket_reading, uint64_t *, size_t);
+struct prunepocket_datagram_answered
+__wrap_prunepocket_take_datagram(struct prunepocket_table, const uint8_t *, size_t, uint32_t, struct prunepocket_origin,
+                                 struct prunepocket_reading, uint64_t *, size_t);
 struct prunepocket_followed __real_prunepocket_choose(struct prunepocket_table, struct prunepocket_reading);
 struct prunepocket_followed __wrap_prunepocket_choose(struct prunepocket_table, struct prunepocket_reading);
 struct prunepocket_answer __real_prunepocket_read_sync_group(const uint8_t *, size_t, uint32_t *);
@@ -40,11 +69,51 @@ struct prunepocket_answer __wrap_prunepocket_read_sync_group(const uint8_t *, si
 struct prunepocket_answer __real_prunepocket_write_sync_group(uint32_t, uint8_t *, size_t, uint64_t *);
 struct prunepocket_answer __wrap_prunepocket_write_sync_group(uint32_t, uint8_t *, size_t, uint64_t *);
 
-__attribute__((no_sanitize("all"))) struct prunepocket_answer
-__wrap_prunepocket_read_items(const uint8_t *datagram, size_t length, uint64_t *rows, size_t rows_length,
-                              uint64_t *count)
+/* The datagram without P in its first packet. */
+static const uint8_t *without_first_p(const uint8_t *datagram, size_t length)
 {
-    struct prunepocket_answer answer = __real_prunepocket_read_items(datagram, length, rows, rows_length, count);
+    static uint8_t copy[4096];
+
+    memcpy(copy, datagram, length);
+    copy[0] &= 0xDF;
+    return copy;
+}
+
+struct prunepocket_answer __wrap_prunepocket_count_items(const uint8_t *datagram, size_t length, uint32_t reduced_size,
+                                                         uint64_t *count)
+{
+    if (ARCHIVE_FAULT == 23)
+        reduced_size = 0;
+    if (ARCHIVE_FAULT == 29)
+        reduced_size &= 1;
+    return __real_prunepocket_count_items(datagram, length, reduced_size, count);
+}
+
+struct prunepocket_answer __wrap_prunepocket_item_field(const uint8_t *datagram, size_t length, uint32_t reduced_size,
+                                                        uint64_t index, uint64_t field, uint64_t *value)
+{
+    if (ARCHIVE_FAULT == 24)
+        reduced_size = 0;
+    if (ARCHIVE_FAULT == 30)
+        reduced_size &= 0xFF;
+    return __real_prunepocket_item_field(datagram, length, reduced_size, index, field, value);
+}
+
+__attribute__((no_sanitize("all"))) struct prunepocket_answer
+__wrap_prunepocket_read_items(const uint8_t *datagram, size_t length, uint32_t reduced_size, uint64_t *rows,
+                              size_t rows_length, uint64_t *count)
+{
+    if (ARCHIVE_FAULT == 19)
+        reduced_size = 0;
+    if (ARCHIVE_FAULT == 20)
+        reduced_size = 1;
+    if (ARCHIVE_FAULT == 21)
+        reduced_size = reduced_size == 0;
+    if (ARCHIVE_FAULT == 22 && reduced_size != 0 && length > 0)
+        datagram = without_first_p(datagram, length);
+
+    struct prunepocket_answer answer =
+        __real_prunepocket_read_items(datagram, length, reduced_size, rows, rows_length, count);
     size_t written = answer.number == 0 ? PRUNEPOCKET_ROW * (size_t)*count : 0;
 
     if (ARCHIVE_FAULT == 1 && written > 0)
@@ -70,6 +139,25 @@ struct prunepocket_answered __wrap_prunepocket_report(struct prunepocket_table t
     if (ARCHIVE_FAULT == 7 && answered.number == PRUNEPOCKET_OTHER_ORIGIN)
         answered.table.members[0].report.payload_type ^= 1;
     return answered;
+}
+
+struct prunepocket_datagram_answered
+__wrap_prunepocket_take_datagram(struct prunepocket_table table, const uint8_t *datagram, size_t length,
+                                 uint32_t reduced_size, struct prunepocket_origin origin,
+                                 struct prunepocket_reading reading, uint64_t *answers, size_t answers_length)
+{
+    if (ARCHIVE_FAULT == 25)
+        reduced_size = 0;
+    if (ARCHIVE_FAULT == 26)
+        reduced_size = 1;
+    if (ARCHIVE_FAULT == 27)
+        reduced_size = reduced_size == 0;
+    if (ARCHIVE_FAULT == 31)
+        reduced_size = reduced_size == 1;
+    if (ARCHIVE_FAULT == 28 && reduced_size != 0 && length > 0)
+        datagram = without_first_p(datagram, length);
+    return __real_prunepocket_take_datagram(table, datagram, length, reduced_size, origin, reading, answers,
+                                            answers_length);
 }
 
 struct prunepocket_followed __wrap_prunepocket_choose(struct prunepocket_table table,

@@ -1,6 +1,7 @@
 /*
- * Gives every input as a datagram to the archive's readers and to the decoder, and aborts where they differ, where a
- * call writes outside of what was lent to it, or where it writes at all though it refuses.
+ * Gives every input as a datagram to the archive's readers and to the decoder, once where reduced size was agreed and
+ * once where it was not, and aborts where they differ, where a call writes outside of what was lent to it, or where it
+ * writes at all though it refuses.
  */
 #include "decoder.h"
 #include "lend.h"
@@ -15,36 +16,46 @@ enum { NUMBERS = 8, BUCKETS = 32, BUCKET_BYTES = 64, KINDS = 4 };
 
 /*
  * The archive is not instrumented, and what the decoder does is seen by its branches. These counters tell the fuzzer
- * more: which refusal was met in which part of the datagram, and how many items there are of each kind.
+ * more: which refusal was met in which part of the datagram, at reduced size and not, and how many items there are of
+ * each kind.
  */
-__attribute__((section("__libfuzzer_extra_counters"))) static uint8_t counters[NUMBERS * BUCKETS + KINDS];
+__attribute__((section("__libfuzzer_extra_counters"))) static uint8_t counters[2][NUMBERS * BUCKETS + KINDS];
 
-/* What was met since the start. */
-static uint64_t runs[NUMBERS];
-static uint8_t places_met[NUMBERS][MOST_ITEMS];
-static uint64_t items_met[KINDS];
-static size_t most_items;
+/* What was met since the start, where reduced size was not agreed and where it was. */
+static struct met {
+    uint64_t runs[NUMBERS];
+    uint8_t places[NUMBERS][MOST_ITEMS];
+    uint64_t items[KINDS];
+    size_t most_items;
+} met[2];
 static uint64_t calls;
 
-static void print_met(void)
+static void print_met_at(const struct met *at)
 {
-    fprintf(stderr, "calls of the archive: %" PRIu64 "\n", calls);
     fprintf(stderr, "refusal       runs  places  first   last\n");
     for (size_t number = 0; number < NUMBERS; number++) {
         size_t distinct = 0, first = 0, last = 0;
 
         for (size_t i = 0; i < MOST_ITEMS; i++) {
-            if (!places_met[number][i])
+            if (!at->places[number][i])
                 continue;
             if (distinct++ == 0)
                 first = 4 * i;
             last = 4 * i;
         }
-        fprintf(stderr, "%7zu %10" PRIu64 " %7zu %6zu %6zu\n", number, runs[number], distinct, first, last);
+        fprintf(stderr, "%7zu %10" PRIu64 " %7zu %6zu %6zu\n", number, at->runs[number], distinct, first, last);
     }
     fprintf(stderr, "items: %" PRIu64 " reports, %" PRIu64 " settings, %" PRIu64 " farewells, "
                     "at most %zu in a datagram\n",
-            items_met[REPORT], items_met[SETTINGS], items_met[FAREWELL], most_items);
+            at->items[REPORT], at->items[SETTINGS], at->items[FAREWELL], at->most_items);
+}
+
+static void print_met(void)
+{
+    fprintf(stderr, "calls of the archive: %" PRIu64 "\nreduced size not agreed:\n", calls);
+    print_met_at(&met[0]);
+    fprintf(stderr, "reduced size agreed:\n");
+    print_met_at(&met[1]);
 }
 
 /* The datagram stands twice in memory: before a page that may not be read, and behind one. */
@@ -129,18 +140,31 @@ static uint64_t fields_of(enum kind kind)
     }
 }
 
-static void check_count(const uint8_t *datagram, size_t length, const struct decoded *decoded)
+/* Calls that were told of reduced size since the input came, so that an input is told the same in every run. */
+static size_t calls_told;
+
+/* What the next call is told: 0 where reduced size was not agreed, and where it was, each of some other values. */
+static uint32_t told(bool reduced_size)
+{
+    static const uint32_t agreed[] = {1, 2, 255, 256, 65536, 0x80000000, UINT32_MAX};
+
+    return reduced_size ? agreed[calls_told++ % (sizeof agreed / sizeof agreed[0])] : 0;
+}
+
+static void check_count(const uint8_t *datagram, size_t length, bool reduced_size, const struct decoded *decoded)
 {
     struct between count = filled();
-    struct prunepocket_answer answer = prunepocket_count_items(datagram, length, &count.number);
 
     calls++;
+    struct prunepocket_answer answer = prunepocket_count_items(datagram, length, told(reduced_size), &count.number);
+
     same_answer("count_items", answer, decoded->refusal, decoded->place);
     check_between("item count", &count, decoded->refusal ? fill(2) : decoded->count);
 }
 
 /* The array ends at a page that may not be touched, and guard values stand before it. */
-static void check_rows(const uint8_t *datagram, size_t length, const struct decoded *decoded, size_t rows_length)
+static void check_rows(const uint8_t *datagram, size_t length, bool reduced_size, const struct decoded *decoded,
+                       size_t rows_length)
 {
     uint64_t *rows = (uint64_t *)(void *)row_memory.end - rows_length;
     uint64_t *guards = rows - GUARDS;
@@ -153,7 +177,8 @@ static void check_rows(const uint8_t *datagram, size_t length, const struct deco
         guards[i] = fill(i);
 
     calls++;
-    struct prunepocket_answer answer = prunepocket_read_items(datagram, length, rows, rows_length, &count.number);
+    struct prunepocket_answer answer =
+        prunepocket_read_items(datagram, length, told(reduced_size), rows, rows_length, &count.number);
 
     if (number == 0 && rows_length < needed)
         number = PRUNEPOCKET_SHORT_BUFFER;
@@ -176,8 +201,8 @@ static void check_rows(const uint8_t *datagram, size_t length, const struct deco
         same("behind the rows", rows[i], fill(GUARDS + i));
 }
 
-static void check_field(const uint8_t *datagram, size_t length, const struct decoded *decoded, uint64_t index,
-                        uint64_t field)
+static void check_field(const uint8_t *datagram, size_t length, bool reduced_size, const struct decoded *decoded,
+                        uint64_t index, uint64_t field)
 {
     struct between value = filled();
     uint64_t number = decoded->refusal;
@@ -187,7 +212,8 @@ static void check_field(const uint8_t *datagram, size_t length, const struct dec
         number = PRUNEPOCKET_NO_SUCH_ITEM;
 
     calls++;
-    struct prunepocket_answer answer = prunepocket_item_field(datagram, length, index, field, &value.number);
+    struct prunepocket_answer answer =
+        prunepocket_item_field(datagram, length, told(reduced_size), index, field, &value.number);
 
     same_answer("item_field", answer, number, decoded->place);
     if (number == 0) {
@@ -198,27 +224,54 @@ static void check_field(const uint8_t *datagram, size_t length, const struct dec
     }
 }
 
-static void check_item(const uint8_t *datagram, size_t length, const struct decoded *decoded, uint64_t index)
+static void check_item(const uint8_t *datagram, size_t length, bool reduced_size, const struct decoded *decoded,
+                       uint64_t index)
 {
     for (uint64_t field = 0; field <= PRUNEPOCKET_ROW; field++)
-        check_field(datagram, length, decoded, index, field);
-    check_field(datagram, length, decoded, index, UINT64_MAX);
+        check_field(datagram, length, reduced_size, decoded, index, field);
+    check_field(datagram, length, reduced_size, decoded, index, UINT64_MAX);
 }
 
-static void tally(const struct decoded *decoded)
+/*
+ * Both values of the flag beside each other, without the decoder: at reduced size 4 is never given, and unless it is
+ * given otherwise, the answers are alike.
+ */
+static void check_alike(const uint8_t *datagram, size_t length)
 {
+    static uint64_t rows[2][PRUNEPOCKET_ROW * MOST_ITEMS];
+    struct prunepocket_answer answers[2];
+    uint64_t counts[2] = {0, 0};
+
+    for (size_t i = 0; i < 2; i++) {
+        calls++;
+        answers[i] =
+            prunepocket_read_items(datagram, length, told(i == 1), rows[i], PRUNEPOCKET_ROW * MOST_ITEMS, &counts[i]);
+    }
+    if (answers[1].number == PRUNEPOCKET_BAD_FIRST)
+        differ("4 at reduced size", 1, 0);
+    if (answers[0].number == PRUNEPOCKET_BAD_FIRST)
+        return;
+    same_answer("reduced size beside not", answers[1], answers[0].number, answers[0].place);
+    same("count at reduced size beside not", counts[1], counts[0]);
+    for (size_t i = 0; i < PRUNEPOCKET_ROW * counts[0]; i++)
+        same("rows at reduced size beside not", rows[1][i], rows[0][i]);
+}
+
+static void tally(bool reduced_size, const struct decoded *decoded)
+{
+    struct met *at = &met[reduced_size];
     size_t bucket = decoded->place / BUCKET_BYTES;
 
-    runs[decoded->refusal]++;
+    at->runs[decoded->refusal]++;
     if (decoded->place / 4 < MOST_ITEMS)
-        places_met[decoded->refusal][decoded->place / 4] = 1;
-    counters[decoded->refusal * BUCKETS + (bucket < BUCKETS ? bucket : BUCKETS - 1)] = 1;
-    if (decoded->count > most_items)
-        most_items = decoded->count;
+        at->places[decoded->refusal][decoded->place / 4] = 1;
+    counters[reduced_size][decoded->refusal * BUCKETS + (bucket < BUCKETS ? bucket : BUCKETS - 1)] = 1;
+    if (decoded->count > at->most_items)
+        at->most_items = decoded->count;
     for (size_t i = 0; i < decoded->count; i++) {
-        uint8_t *counter = &counters[NUMBERS * BUCKETS + decoded->items[i].kind];
+        uint8_t *counter = &counters[reduced_size][NUMBERS * BUCKETS + decoded->items[i].kind];
 
-        items_met[decoded->items[i].kind]++;
+        at->items[decoded->items[i].kind]++;
         if (*counter < UINT8_MAX)
             ++*counter;
     }
@@ -263,10 +316,44 @@ size_t LLVMFuzzerCustomMutator(uint8_t *data, size_t size, size_t most, unsigned
     return size;
 }
 
-int LLVMFuzzerTestOneInput(const uint8_t *data, size_t size)
+/* The bytes that the decoder is given stand at both other addresses too. */
+static void check_datagram(const uint8_t *data, const uint8_t *near_end, const uint8_t *near_start, size_t size,
+                           bool reduced_size)
 {
     static struct decoded decoded;
 
+    decode(data, size, reduced_size, &decoded);
+    tally(reduced_size, &decoded);
+
+    check_count(near_end, size, reduced_size, &decoded);
+    check_count(near_start, size, reduced_size, &decoded);
+
+    size_t needed = PRUNEPOCKET_ROW * decoded.count;
+    check_rows(near_end, size, reduced_size, &decoded, needed);
+    check_rows(near_start, size, reduced_size, &decoded, needed + 7);
+    if (needed > 0) {
+        check_rows(near_end, size, reduced_size, &decoded, needed - 1);
+        check_rows(near_end, size, reduced_size, &decoded, needed - PRUNEPOCKET_ROW);
+        check_rows(near_end, size, reduced_size, &decoded, needed / 2);
+        check_rows(near_end, size, reduced_size, &decoded, 0);
+
+        /* The first item, the last and one between them that the bytes decide. */
+        size_t between = 0;
+        for (size_t i = 0; i < size; i++)
+            between = between * 31 + data[i];
+        check_item(near_end, size, reduced_size, &decoded, 0);
+        check_item(near_start, size, reduced_size, &decoded, decoded.count - 1);
+        check_item(near_end, size, reduced_size, &decoded, between % decoded.count);
+    } else {
+        check_field(near_end, size, reduced_size, &decoded, 0, 0);
+    }
+    check_field(near_end, size, reduced_size, &decoded, decoded.count, 0);
+    check_field(near_start, size, reduced_size, &decoded, decoded.count + 1, 1);
+    check_field(near_end, size, reduced_size, &decoded, UINT64_MAX, 2);
+}
+
+int LLVMFuzzerTestOneInput(const uint8_t *data, size_t size)
+{
     if (size > MOST_INPUT)
         return 0;
     uint8_t *near_end = before_fence.end - size;
@@ -276,34 +363,10 @@ int LLVMFuzzerTestOneInput(const uint8_t *data, size_t size)
         memcpy(near_start, data, size);
     }
 
-    decode(data, size, &decoded);
-    tally(&decoded);
-
-    check_count(near_end, size, &decoded);
-    check_count(near_start, size, &decoded);
-
-    size_t needed = PRUNEPOCKET_ROW * decoded.count;
-    check_rows(near_end, size, &decoded, needed);
-    check_rows(near_start, size, &decoded, needed + 7);
-    if (needed > 0) {
-        check_rows(near_end, size, &decoded, needed - 1);
-        check_rows(near_end, size, &decoded, needed - PRUNEPOCKET_ROW);
-        check_rows(near_end, size, &decoded, needed / 2);
-        check_rows(near_end, size, &decoded, 0);
-
-        /* The first item, the last and one between them that the bytes decide. */
-        size_t between = 0;
-        for (size_t i = 0; i < size; i++)
-            between = between * 31 + data[i];
-        check_item(near_end, size, &decoded, 0);
-        check_item(near_start, size, &decoded, decoded.count - 1);
-        check_item(near_end, size, &decoded, between % decoded.count);
-    } else {
-        check_field(near_end, size, &decoded, 0, 0);
-    }
-    check_field(near_end, size, &decoded, decoded.count, 0);
-    check_field(near_start, size, &decoded, decoded.count + 1, 1);
-    check_field(near_end, size, &decoded, UINT64_MAX, 2);
+    calls_told = 0;
+    check_alike(near_end, size);
+    check_datagram(data, near_end, near_start, size, false);
+    check_datagram(data, near_end, near_start, size, true);
 
     if (size > 0 && (memcmp(near_end, data, size) != 0 || memcmp(near_start, data, size) != 0))
         differ("the datagram was written on", 1, 0);

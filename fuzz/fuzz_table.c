@@ -1,7 +1,10 @@
 /*
  * Takes every input as a script of calls, gives them to the archive's member table and to the plain register, and
- * aborts where an answer, a member, its place or the target differs. The form of a script is in README.md.
+ * aborts where an answer, a member, its place or the target differs. What a whole datagram holds is the decoder's word.
+ * The form of a script is in README.md.
  */
+#include "decoder.h"
+#include "lend.h"
 #include "prunepocket.h"
 #include "register.h"
 #include "same.h"
@@ -14,10 +17,10 @@
 
 #define SECOND ((uint64_t)1 << 32)
 
-enum { MOST_CALLS = 600, NUMBERS = 21, NOBODY = -1 };
-enum call { OPEN, FILE_REPORT, SAY_FAREWELL, SWEEP, CHOOSE, CALLS };
+enum { MOST_CALLS = 600, NUMBERS = 21, NOBODY = -1, MOST_PACKETS = 7, MOST_DATAGRAM = 40 * MOST_PACKETS };
+enum call { OPEN, FILE_REPORT, SAY_FAREWELL, SWEEP, CHOOSE, TAKE_DATAGRAM, CALLS };
 
-static const char *const call_names[CALLS] = {"open", "report", "farewell", "sweep", "choose"};
+static const char *const call_names[CALLS] = {"open", "report", "farewell", "sweep", "choose", "take_datagram"};
 
 /* What the fuzzer is told beside the branches: answers by call, rows, and how a target came about. */
 enum {
@@ -30,7 +33,7 @@ __attribute__((section("__libfuzzer_extra_counters"))) static uint8_t counters[C
 
 /* What was met since the start. */
 static uint64_t met[CALLS][NUMBERS];
-static uint64_t looks, ties[2], targets[2], replaced, swept, most_rows;
+static uint64_t looks, ties[2], targets[2], replaced, swept, most_rows, reduced;
 
 static void print_met(void)
 {
@@ -47,6 +50,7 @@ static void print_met(void)
     fprintf(stderr, "reports replaced: %" PRIu64 "; members swept: %" PRIu64 "; at most %" PRIu64
                     " members; looks at all members: %" PRIu64 "\n",
             replaced, swept, most_rows, looks);
+    fprintf(stderr, "datagrams accepted at reduced size that otherwise get 4: %" PRIu64 "\n", reduced);
 }
 
 int LLVMFuzzerInitialize(int *argc, char ***argv)
@@ -187,14 +191,12 @@ static bool open_both(struct sides *sides, uint32_t group, uint32_t media, uint3
     return true;
 }
 
-static void report_both(struct sides *sides, const struct row *row, struct clocks now)
+/* The register's number for a report. A new row's member should stand at the lowest free place. */
+static unsigned report_expected(struct sides *sides, const struct row *row, struct clocks now)
 {
     bool known = register_row(&sides->rows, row->source) != NULL;
     unsigned number = register_report(&sides->rows, row, now);
-    struct prunepocket_reading reading = {.ntp = now.n, .rtp = now.r};
-    struct prunepocket_answered answered = prunepocket_report(sides->table, to_record(row), reading);
 
-    take(sides, FILE_REPORT, &answered, number);
     if (number == 0 && known)
         replaced++;
     if (number == 0 && !known) {
@@ -204,6 +206,15 @@ static void report_both(struct sides *sides, const struct row *row, struct clock
             free++;
         sides->places[free] = row->source;
     }
+    return number;
+}
+
+static void report_both(struct sides *sides, const struct row *row, struct clocks now)
+{
+    struct prunepocket_reading reading = {.ntp = now.n, .rtp = now.r};
+    struct prunepocket_answered answered = prunepocket_report(sides->table, to_record(row), reading);
+
+    take(sides, FILE_REPORT, &answered, report_expected(sides, row, now));
 }
 
 /* Those whose row has gone leave their places. */
@@ -214,13 +225,19 @@ static void leave(struct sides *sides)
             sides->places[place] = NOBODY;
 }
 
-static void farewell_both(struct sides *sides, uint32_t source, const struct from *origin)
+static unsigned farewell_expected(struct sides *sides, uint32_t source, const struct from *origin)
 {
     unsigned number = register_farewell(&sides->rows, source, origin);
-    struct prunepocket_answered answered = prunepocket_farewell(sides->table, source, to_origin(origin));
 
     leave(sides);
-    take(sides, SAY_FAREWELL, &answered, number);
+    return number;
+}
+
+static void farewell_both(struct sides *sides, uint32_t source, const struct from *origin)
+{
+    struct prunepocket_answered answered = prunepocket_farewell(sides->table, source, to_origin(origin));
+
+    take(sides, SAY_FAREWELL, &answered, farewell_expected(sides, source, origin));
 }
 
 static void sweep_both(struct sides *sides, struct clocks now)
@@ -262,6 +279,103 @@ static void choose_both(struct sides *sides, struct clocks now)
     same("counted", followed.target.counted, expected.counted);
     same_table(&followed.table, &sides->table);
     sides->table = followed.table;
+}
+
+/* ---- Whole datagrams ---- */
+
+/* A datagram as it arrives. */
+struct arrival {
+    uint8_t bytes[MOST_DATAGRAM];
+    size_t length;
+    uint32_t reduced_size;
+    struct from origin;
+    struct clocks now;
+};
+
+/* What the archive answers, and the list, in which each number has a value of its own beforehand. */
+struct taken {
+    struct prunepocket_datagram_answered answered;
+    uint64_t numbers[MOST_ITEMS];
+};
+
+static void take_arrival(const struct sides *sides, const struct arrival *arrival, uint32_t reduced_size,
+                         struct taken *taken)
+{
+    struct prunepocket_reading reading = {.ntp = arrival->now.n, .rtp = arrival->now.r};
+
+    for (size_t i = 0; i < MOST_ITEMS; i++)
+        taken->numbers[i] = fill(i);
+    taken->answered =
+        prunepocket_take_datagram(sides->table, arrival->bytes, arrival->length, reduced_size,
+                                  to_origin(&arrival->origin), reading, taken->numbers, MOST_ITEMS);
+}
+
+/*
+ * Both values of the flag beside each other, without decoder and register: at reduced size 4 is never given, and unless
+ * it is given otherwise, the answers are alike.
+ */
+static void check_alike(const struct sides *sides, const struct arrival *arrival)
+{
+    static struct taken taken[2];
+
+    take_arrival(sides, arrival, 0, &taken[0]);
+    take_arrival(sides, arrival, arrival->reduced_size == 0 ? 1 : arrival->reduced_size, &taken[1]);
+    same("4 at reduced size", taken[1].answered.number == PRUNEPOCKET_BAD_FIRST, 0);
+    if (taken[0].answered.number == PRUNEPOCKET_BAD_FIRST) {
+        reduced += taken[1].answered.number == 0;
+        return;
+    }
+    same("take_datagram at reduced size beside not", taken[1].answered.number, taken[0].answered.number);
+    same("its place", taken[1].answered.place, taken[0].answered.place);
+    same("its count", taken[1].answered.count, taken[0].answered.count);
+    for (size_t i = 0; i < MOST_ITEMS; i++)
+        same("its list", taken[1].numbers[i], taken[0].numbers[i]);
+    same_table(&taken[1].answered.table, &taken[0].answered.table);
+}
+
+static struct row to_row(const struct item *item, const struct from *origin)
+{
+    return (struct row){item->source,
+                        *origin,
+                        {item->received, item->group, item->media, item->rtp, (uint32_t)item->presented,
+                         item->payload_type, item->p}};
+}
+
+/* The register's numbers for the reports and farewells that were decoded: how many there are. */
+static size_t numbers_expected(struct sides *sides, const struct arrival *arrival, const struct decoded *decoded,
+                               uint64_t *numbers)
+{
+    size_t count = 0;
+
+    for (size_t i = 0; i < decoded->count; i++) {
+        const struct item *item = &decoded->items[i];
+        struct row row = to_row(item, &arrival->origin);
+
+        if (item->kind == REPORT)
+            numbers[count++] = report_expected(sides, &row, arrival->now);
+        else if (item->kind == FAREWELL)
+            numbers[count++] = farewell_expected(sides, item->source, &arrival->origin);
+    }
+    return count;
+}
+
+static void datagram_both(struct sides *sides, const struct arrival *arrival)
+{
+    static struct decoded decoded;
+    static struct taken taken;
+    uint64_t numbers[MOST_ITEMS];
+
+    check_alike(sides, arrival);
+    decode(arrival->bytes, arrival->length, arrival->reduced_size != 0, &decoded);
+    size_t count = numbers_expected(sides, arrival, &decoded, numbers);
+    take_arrival(sides, arrival, arrival->reduced_size, &taken);
+
+    struct prunepocket_answered answered = {.number = taken.answered.number, .table = taken.answered.table};
+    take(sides, TAKE_DATAGRAM, &answered, decoded.refusal);
+    same("place of a refused datagram", taken.answered.place, decoded.place);
+    same("count of take_datagram", taken.answered.count, count);
+    for (size_t i = 0; i < MOST_ITEMS; i++)
+        same("list of take_datagram", taken.numbers[i], i < count ? numbers[i] : fill(i));
 }
 
 /* ---- The script ---- */
@@ -458,8 +572,86 @@ static void describe(struct script *script, const struct sides *sides, struct to
     }
 }
 
+static uint8_t *put_word(uint8_t *bytes, uint32_t word)
+{
+    for (int i = 0; i < 4; i++)
+        bytes[i] = (uint8_t)(word >> (24 - 8 * i));
+    return bytes + 4;
+}
+
+/* Three of the words that a report and the settings have: received and RTP time. */
+static uint8_t *put_times(uint8_t *bytes, const struct told *report)
+{
+    bytes = put_word(bytes, (uint32_t)(report->received >> 32));
+    bytes = put_word(bytes, (uint32_t)report->received);
+    return put_word(bytes, report->rtp);
+}
+
+static uint8_t *put_report(uint8_t *bytes, uint32_t sender, const struct told *report)
+{
+    bytes = put_word(bytes, 0x80CF0009);
+    bytes = put_word(bytes, sender);
+    bytes = put_word(bytes, report->p != 0 ? 0x0C110007 : 0x0C100007);
+    bytes = put_word(bytes, (uint32_t)report->payload_type << 25);
+    bytes = put_word(bytes, report->group);
+    bytes = put_word(bytes, report->media);
+    bytes = put_times(bytes, report);
+    return put_word(bytes, report->presented);
+}
+
+static uint8_t *put_settings(uint8_t *bytes, uint32_t sender, const struct told *report)
+{
+    bytes = put_word(bytes, 0x80D30008);
+    bytes = put_word(bytes, sender);
+    bytes = put_word(bytes, report->media);
+    bytes = put_word(bytes, report->group);
+    bytes = put_times(bytes, report);
+    bytes = put_word(bytes, 0);
+    return put_word(bytes, report->presented);
+}
+
+/* A packet of a source: a report with the times of the last, a BYE, settings, an RR, or one of any type. */
+static uint8_t *put_packet(struct script *script, uint8_t *bytes, const struct told *report)
+{
+    uint8_t said = byte(script);
+    uint32_t from = source(script);
+
+    switch (said % 6) {
+    case 0:
+    case 1:
+        return put_report(bytes, from, report);
+    case 2:
+        return put_word(put_word(bytes, 0x81CB0001), from);
+    case 3:
+        return put_settings(bytes, from, report);
+    case 4:
+        return put_word(put_word(bytes, 0x80C90001), from);
+    default:
+        return put_word(put_word(bytes, 0x80000001 | (uint32_t)byte(script) << 16), from);
+    }
+}
+
+/* Reduced size, origin, packets, and one byte that is then changed, or none. */
+static void arrive(struct script *script, const struct told *report, struct arrival *arrival)
+{
+    static const uint32_t flags[] = {0, 1, 2, 255, 256, 65536, 0x80000000, UINT32_MAX};
+    uint8_t *end = arrival->bytes;
+
+    arrival->reduced_size = flags[byte(script) % 8];
+    arrival->origin = origin(script);
+    for (uint8_t packets = byte(script) % (MOST_PACKETS + 1); packets > 0; packets--)
+        end = put_packet(script, end, report);
+    arrival->length = (size_t)(end - arrival->bytes);
+
+    size_t changed = (size_t)number(script, 2);
+    uint8_t bits = byte(script);
+    if (changed < arrival->length)
+        arrival->bytes[changed] ^= bits;
+}
+
 static void call_script(struct script *script, struct sides *sides)
 {
+    static struct arrival arrival;
     struct clocks now = {1000 * SECOND, 9000000};
     /* P1 of document 01, until the script says otherwise. */
     struct told report = {999 * SECOND, sides->rows.group, sides->rows.media, 8910000, 0x03E78000, 33, 1};
@@ -468,7 +660,7 @@ static void call_script(struct script *script, struct sides *sides)
     while (script->left > 0 && sides->calls < MOST_CALLS) {
         uint8_t said = byte(script);
 
-        switch (said % 11) {
+        switch (said % 12) {
         case 0: /* a report with times of its own */
         case 1:
             row.source = source(script);
@@ -536,8 +728,13 @@ static void call_script(struct script *script, struct sides *sides)
                     sweep_both(sides, limit);
             }
             break;
-        default:
+        case 10:
             now = move(script, now, sides->rows.rate);
+            break;
+        default:
+            arrive(script, &report, &arrival);
+            arrival.now = now;
+            datagram_both(sides, &arrival);
             break;
         }
         if (sides->calls % 16 == 0)

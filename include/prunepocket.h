@@ -41,7 +41,7 @@ struct prunepocket_answer {
 #define PRUNEPOCKET_BAD_LENGTH 1       /* datagram length is 0, not a multiple of 4, or over 2,048; place 0 */
 #define PRUNEPOCKET_BAD_PACKET 2       /* version is not 2, or the packet runs past the end; the packet's place */
 #define PRUNEPOCKET_BAD_PADDING 3      /* bad padding; the packet's place */
-#define PRUNEPOCKET_BAD_FIRST 4        /* first packet is neither 200 nor 201; place 0 */
+#define PRUNEPOCKET_BAD_FIRST 4        /* first packet is neither 200 nor 201, and reduced size not agreed; place 0 */
 #define PRUNEPOCKET_SHORT_CONTENT 5    /* content too short for its type, or for 211 not 36 bytes; the packet's place */
 #define PRUNEPOCKET_BLOCK_PAST_END 6   /* an XR block runs past the content; the block's place */
 #define PRUNEPOCKET_BAD_BLOCK_LENGTH 7 /* block type 12 with block length other than 7; the block's place */
@@ -88,10 +88,21 @@ struct prunepocket_answer {
 #define PRUNEPOCKET_ROW 10 /* columns of a row: a column that the item does not have holds 0 */
 
 /*
+ * Every call that reads a datagram is told by reduced_size whether reduced-size
+ * RTCP (RFC 5506) was agreed with the unit that sent it: 0 says that it was not,
+ * and every other value of the 32 bits that it was. A host knows it from its SDP,
+ * where the line a=rtcp-rsize stands for it. Where it was agreed, the first packet
+ * may be of any type, and 4 is never given. Every other check is made as where it
+ * was not, in the same order: padding on the first packet is 3, even where it is
+ * the only one.
+ */
+
+/*
  * Puts how many items the datagram has into *count.
  * Refusals: 1 to 7.
  */
 struct prunepocket_answer prunepocket_count_items(const uint8_t *datagram, size_t length,
+                                                  uint32_t reduced_size,
                                                   uint64_t *count);
 
 /*
@@ -100,6 +111,7 @@ struct prunepocket_answer prunepocket_count_items(const uint8_t *datagram, size_
  * the index is not below the item count or the item has no such field.
  */
 struct prunepocket_answer prunepocket_item_field(const uint8_t *datagram, size_t length,
+                                                 uint32_t reduced_size,
                                                  uint64_t index, uint64_t field,
                                                  uint64_t *value);
 
@@ -111,6 +123,7 @@ struct prunepocket_answer prunepocket_item_field(const uint8_t *datagram, size_t
  * is below PRUNEPOCKET_ROW times the item count.
  */
 struct prunepocket_answer prunepocket_read_items(const uint8_t *datagram, size_t length,
+                                                 uint32_t reduced_size,
                                                  uint64_t *rows, size_t rows_length,
                                                  uint64_t *count);
 
@@ -120,7 +133,8 @@ struct prunepocket_answer prunepocket_read_items(const uint8_t *datagram, size_t
  * into *written. Nothing behind these bytes is changed, and after a refusal
  * nothing at all. Both take group and media source in this order; the messages
  * themselves hold them in different orders. The host puts an SR or RR, and
- * SDES, before what was written.
+ * SDES, before what was written, unless reduced size was agreed with those who
+ * are to read it.
  */
 #define PRUNEPOCKET_REPORT_BYTES 40
 #define PRUNEPOCKET_SETTINGS_BYTES 36
@@ -354,6 +368,7 @@ struct prunepocket_answered prunepocket_sweep(struct prunepocket_table table,
  * Takes a whole datagram that came from this origin and arrived at the sender's
  * reading: each report and each farewell in it, in the order of items, as
  * prunepocket_report and prunepocket_farewell do. The settings are passed by.
+ * reduced_size is as for the calls that read.
  * The number that each call gets, 0 or 13 to 19, goes to the front of answers,
  * also in the order of items; numbers of the list behind them are as before.
  * As many numbers as the datagram has items are always enough, and so are 512.
@@ -363,6 +378,7 @@ struct prunepocket_answered prunepocket_sweep(struct prunepocket_table table,
  */
 struct prunepocket_datagram_answered prunepocket_take_datagram(struct prunepocket_table table,
                                                                const uint8_t *datagram, size_t length,
+                                                               uint32_t reduced_size,
                                                                struct prunepocket_origin origin,
                                                                struct prunepocket_reading reading,
                                                                uint64_t *answers, size_t answers_length);

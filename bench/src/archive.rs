@@ -4,15 +4,15 @@ use crate::peer_table;
 use prunepocket_sys::{self as sys, Record, Refusal, ReportFields, ReportMessage, SettingsMessage};
 
 /// How many items a datagram has.
-pub fn count_items(datagram: &[u8]) -> Result<u64, Refusal> {
+pub fn count_items(datagram: &[u8], reduced_size: bool) -> Result<u64, Refusal> {
     let mut count = 0;
-    sys::count_items(datagram, &mut count).map(|()| count)
+    sys::count_items(datagram, reduced_size, &mut count).map(|()| count)
 }
 
 /// All items into rows, and how many there are.
-pub fn read_items(datagram: &[u8], rows: &mut [u64]) -> Result<u64, Refusal> {
+pub fn read_items(datagram: &[u8], reduced_size: bool, rows: &mut [u64]) -> Result<u64, Refusal> {
     let mut count = 0;
-    sys::read_items(datagram, rows, &mut count).map(|()| count)
+    sys::read_items(datagram, reduced_size, rows, &mut count).map(|()| count)
 }
 
 /// How many bytes were written, or the refusal's number.

@@ -1,29 +1,36 @@
 //! The datagrams that are timed.
 
-/// Datagrams that are timed together, and their name.
+/// Datagrams that are timed together, their name, and whether reduced size was
+/// agreed with their sender.
 pub struct Input {
     pub name: &'static str,
+    pub reduced_size: bool,
     pub datagrams: Vec<Vec<u8>>,
 }
 
 const NOISE: usize = 512;
 
-pub fn inputs() -> Vec<Input> {
+/// All but the last are read where reduced size was not agreed.
+pub fn inputs([not_agreed, agreed]: [bool; 2]) -> Vec<Input> {
+    let behind_rr = |blocks| idms_blocks(receiver_report(), blocks);
     vec![
-        one("RR + XR, 1 IDMS block", idms_blocks(1)),
-        one("farewells", farewells(2048)),
-        one("RR + XR, 50 IDMS blocks", idms_blocks(50)),
-        one("four-byte XR blocks", short_blocks(2048)),
+        one("RR + XR, 1 IDMS block", not_agreed, behind_rr(1)),
+        one("farewells", not_agreed, farewells(2048)),
+        one("RR + XR, 50 IDMS blocks", not_agreed, behind_rr(50)),
+        one("four-byte XR blocks", not_agreed, short_blocks(2048)),
         Input {
             name: "noise (average)",
+            reduced_size: not_agreed,
             datagrams: noise(),
         },
+        one("XR alone, 1 IDMS block", agreed, idms_blocks(Vec::new(), 1)),
     ]
 }
 
-fn one(name: &'static str, datagram: Vec<u8>) -> Input {
+pub fn one(name: &'static str, reduced_size: bool, datagram: Vec<u8>) -> Input {
     Input {
         name,
+        reduced_size,
         datagrams: vec![datagram],
     }
 }
@@ -39,9 +46,8 @@ fn put_header(datagram: &mut Vec<u8>, count: usize, packet_type: u8, words: usiz
     datagram.extend(length.to_be_bytes());
 }
 
-/// An RR, then one XR packet of reports, which differ in their times.
-pub fn idms_blocks(blocks: usize) -> Vec<u8> {
-    let mut datagram = receiver_report();
+/// One XR packet of reports, which differ in their times, behind what is there.
+fn idms_blocks(mut datagram: Vec<u8>, blocks: usize) -> Vec<u8> {
     put_header(&mut datagram, 0, 207, 2 + 8 * blocks);
     datagram.extend(20u32.to_be_bytes());
     for block in 0..blocks as u32 {

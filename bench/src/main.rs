@@ -29,8 +29,8 @@ const BUFFER: usize = 64;
 /// Numbers of an array that holds the rows of every datagram.
 const NUMBERS: usize = ROW * 512;
 
-type Count = fn(&[u8]) -> Result<u64, Refusal>;
-type Read = fn(&[u8], &mut [u64]) -> Result<u64, Refusal>;
+type Count = fn(&[u8], bool) -> Result<u64, Refusal>;
+type Read = fn(&[u8], bool, &mut [u64]) -> Result<u64, Refusal>;
 
 /// The same writer of the archive and of the peer.
 struct Writers<M> {
@@ -49,7 +49,10 @@ const SETTINGS_WRITERS: Writers<SettingsMessage> = Writers {
 };
 
 fn main() {
-    let inputs = inputs::inputs();
+    // Whether reduced size was agreed: hidden, so that no call is built for one
+    // value.
+    let [not_agreed, agreed] = black_box([false, true]);
+    let inputs = inputs::inputs([not_agreed, agreed]);
     for input in &inputs {
         agree_on(input);
     }
@@ -58,8 +61,8 @@ fn main() {
     println!("nanoseconds per datagram or message, best of {ROUNDS} interleaved rounds");
     print_inputs("count", &inputs, time_counts);
     print_inputs("all items", &inputs, time_reads);
-    print_growth("farewells", inputs::farewells);
-    print_growth("four-byte XR blocks", inputs::short_blocks);
+    print_growth("farewells", not_agreed, inputs::farewells);
+    print_growth("four-byte XR blocks", not_agreed, inputs::short_blocks);
     print_writes_title();
     print_writes("report", REPORT_WRITERS, &messages::reports());
     print_writes("settings", SETTINGS_WRITERS, &messages::settings());
@@ -67,11 +70,12 @@ fn main() {
 }
 
 /// Panics where the archive and the peer differ on an input, or on copies of
-/// it with altered bytes and lengths.
+/// it with altered bytes and lengths, with either value of the flag.
 fn agree_on(input: &Input) {
     let mut random = Random(0x3611);
     for datagram in &input.datagrams {
-        agree(datagram);
+        agree(datagram, false);
+        agree(datagram, true);
     }
     for _ in 0..ALTERED {
         let mut datagram = input.datagrams[random.below(input.datagrams.len())].clone();
@@ -80,19 +84,22 @@ fn agree_on(input: &Input) {
             datagram[at] ^= 1 << random.below(8);
         }
         datagram.truncate(4 * (1 + random.below(512)));
-        agree(&datagram);
+        agree(&datagram, false);
+        agree(&datagram, true);
     }
 }
 
-fn agree(datagram: &[u8]) {
-    let count = archive::count_items(datagram);
-    assert_eq!(count, peer::count_items(datagram), "{datagram:?}");
+fn agree(datagram: &[u8], reduced_size: bool) {
+    let count = archive::count_items(datagram, reduced_size);
+    let peers = peer::count_items(datagram, reduced_size);
+    assert_eq!(count, peers, "{datagram:?}");
     let exact = ROW * count.unwrap_or(0) as usize;
     for length in [exact, exact + 1, exact.saturating_sub(1)] {
         let mut ours = vec![u64::MAX; length];
         let mut peers = ours.clone();
-        let answer = archive::read_items(datagram, &mut ours);
-        assert_eq!(answer, peer::read_items(datagram, &mut peers));
+        let answer = archive::read_items(datagram, reduced_size, &mut ours);
+        let peer_answer = peer::read_items(datagram, reduced_size, &mut peers);
+        assert_eq!(answer, peer_answer);
         assert_eq!(ours, peers, "{datagram:?}");
     }
 }
@@ -120,24 +127,25 @@ fn print_inputs(title: &str, inputs: &[Input], time: fn(&Input) -> (f64, f64)) {
     for input in inputs {
         let (ours, peers) = time(input);
         let bytes: usize = input.datagrams.iter().map(Vec::len).sum();
-        let items: u64 = input.datagrams.iter().map(|datagram| items(datagram)).sum();
         println!(
             "{:<32}{:>8}{:>8}{ours:>10.1}{peers:>10.1}{:>12.2}",
             input.name,
             bytes / input.datagrams.len(),
-            items / input.datagrams.len() as u64,
+            items(input) / input.datagrams.len() as u64,
             ours / peers
         );
     }
 }
 
-/// The items of a datagram, none where it is refused.
-fn items(datagram: &[u8]) -> u64 {
-    archive::count_items(datagram).unwrap_or(0)
+/// The items of all datagrams; one that is refused has none.
+fn items(input: &Input) -> u64 {
+    let items = |datagram: &Vec<u8>| archive::count_items(datagram, input.reduced_size);
+    let datagrams = input.datagrams.iter();
+    datagrams.map(|datagram| items(datagram).unwrap_or(0)).sum()
 }
 
 /// Shows that reading all items grows in proportion to the length.
-fn print_growth(name: &'static str, make: fn(usize) -> Vec<u8>) {
+fn print_growth(name: &'static str, reduced_size: bool, make: fn(usize) -> Vec<u8>) {
     println!();
     println!(
         "{:<32}{:>8}{:>8}{:>10}{:>10}{:>10}{:>10}",
@@ -150,14 +158,13 @@ fn print_growth(name: &'static str, make: fn(usize) -> Vec<u8>) {
         "per byte"
     );
     for length in [256, 512, 1024, 2048] {
-        let datagrams = vec![make(length)];
-        let input = Input { name, datagrams };
+        let input = inputs::one(name, reduced_size, make(length));
         let (ours, peers) = time_reads(&input);
         let bytes = length as f64;
         println!(
             "{:<32}{length:>8}{:>8}{ours:>10.1}{:>10.3}{peers:>10.1}{:>10.3}",
             "",
-            items(&input.datagrams[0]),
+            items(&input),
             ours / bytes,
             peers / bytes
         );
@@ -184,7 +191,7 @@ fn print_writes<M>(name: &str, writers: Writers<M>, messages: &[M]) {
 fn time_counts(input: &Input) -> (f64, f64) {
     let pass = |count: Count| {
         for datagram in &input.datagrams {
-            use_up(count(black_box(datagram)));
+            use_up(count(black_box(datagram), input.reduced_size));
         }
     };
     let ours = || pass(archive::count_items);
@@ -197,7 +204,8 @@ fn time_reads(input: &Input) -> (f64, f64) {
     let mut other_rows = rows.clone();
     let pass = |read: Read, rows: &mut [u64]| {
         for datagram in &input.datagrams {
-            use_up(read(black_box(datagram), black_box(&mut *rows)));
+            let rows = black_box(&mut *rows);
+            use_up(read(black_box(datagram), input.reduced_size, rows));
         }
     };
     let ours = || pass(archive::read_items, &mut rows);

@@ -29,19 +29,20 @@ fn refuse<T>(number: u64, word: usize) -> Result<T, Refusal> {
     Err(Refusal { number, place })
 }
 
-/// How many items a datagram has. Not inlined, since the archive is not.
+/// How many items a datagram has. Not inlined, since the archive is not. Here
+/// and below, `reduced_size` says whether reduced size was agreed.
 #[inline(never)]
-pub fn count_items(datagram: &[u8]) -> Result<u64, Refusal> {
+pub fn count_items(datagram: &[u8], reduced_size: bool) -> Result<u64, Refusal> {
     let words = words_of(datagram)?;
-    let count = check(words)?;
+    let count = check(words, reduced_size)?;
     Ok(count as u64)
 }
 
 /// All items into rows, and how many there are.
 #[inline(never)]
-pub fn read_items(datagram: &[u8], rows: &mut [u64]) -> Result<u64, Refusal> {
+pub fn read_items(datagram: &[u8], reduced_size: bool, rows: &mut [u64]) -> Result<u64, Refusal> {
     let words = words_of(datagram)?;
-    let count = check(words)?;
+    let count = check(words, reduced_size)?;
     if rows.len() < ROW * count {
         return refuse(10, 0);
     }
@@ -97,7 +98,7 @@ fn padding(packet: &[Word]) -> usize {
 
 /// All checks of the datagram; how many items it has.
 #[inline(always)]
-fn check(words: &[Word]) -> Result<usize, Refusal> {
+fn check(words: &[Word], reduced_size: bool) -> Result<usize, Refusal> {
     let mut items = 0;
     let mut start = 0;
     while start < words.len() {
@@ -118,7 +119,7 @@ fn check(words: &[Word]) -> Result<usize, Refusal> {
             }
             content = &content[..content.len() - padding];
         }
-        if start == 0 && !matches!(packet_type(header), 200 | 201) {
+        if start == 0 && !reduced_size && !matches!(packet_type(header), 200 | 201) {
             return refuse(4, 0);
         }
         let count = count_of(header);

@@ -5,10 +5,16 @@ use crate::structs::{
 };
 
 extern "C" {
-    pub fn prunepocket_count_items(datagram: *const u8, length: usize, count: *mut u64) -> Answer;
+    pub fn prunepocket_count_items(
+        datagram: *const u8,
+        length: usize,
+        reduced_size: u32,
+        count: *mut u64,
+    ) -> Answer;
     pub fn prunepocket_item_field(
         datagram: *const u8,
         length: usize,
+        reduced_size: u32,
         index: u64,
         field: u64,
         value: *mut u64,
@@ -16,6 +22,7 @@ extern "C" {
     pub fn prunepocket_read_items(
         datagram: *const u8,
         length: usize,
+        reduced_size: u32,
         rows: *mut u64,
         rows_length: usize,
         count: *mut u64,
@@ -59,6 +66,7 @@ extern "C" {
         table: Table,
         datagram: *const u8,
         length: usize,
+        reduced_size: u32,
         origin: Origin,
         reading: Reading,
         answers: *mut u64,

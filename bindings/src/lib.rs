@@ -2,7 +2,8 @@
 //! functions. Each lends what the C function lends, so that a caller can see
 //! that a refusal leaves it alone.
 
-mod functions;
+// Public for values of reduced_size that a bool cannot say.
+pub mod functions;
 mod messages;
 mod structs;
 mod table;

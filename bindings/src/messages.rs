@@ -65,29 +65,51 @@ pub struct SettingsMessage {
     pub presented: u64,
 }
 
-/// Puts how many items the datagram has into `count`.
+/// Puts how many items the datagram has into `count`. Here and below,
+/// `reduced_size` says whether reduced-size RTCP was agreed with its sender.
 #[inline]
-pub fn count_items(datagram: &[u8], count: &mut u64) -> Result<(), Refusal> {
+pub fn count_items(datagram: &[u8], reduced_size: bool, count: &mut u64) -> Result<(), Refusal> {
+    let (bytes, length) = (datagram.as_ptr(), datagram.len());
     // SAFETY: pointers and lengths come from live slices and references, none
     // of which share memory; the pointer of an empty slice is not null.
-    unsafe { prunepocket_count_items(datagram.as_ptr(), datagram.len(), count) }.refusal()
+    unsafe { prunepocket_count_items(bytes, length, reduced_size.into(), count) }.refusal()
 }
 
 /// Puts a field of the item at an index into `value`.
 #[inline]
-pub fn item_field(datagram: &[u8], index: u64, field: u64, value: &mut u64) -> Result<(), Refusal> {
+pub fn item_field(
+    datagram: &[u8],
+    reduced_size: bool,
+    index: u64,
+    field: u64,
+    value: &mut u64,
+) -> Result<(), Refusal> {
+    let (bytes, length) = (datagram.as_ptr(), datagram.len());
     // SAFETY: as for count_items.
-    unsafe { prunepocket_item_field(datagram.as_ptr(), datagram.len(), index, field, value) }
+    unsafe { prunepocket_item_field(bytes, length, reduced_size.into(), index, field, value) }
         .refusal()
 }
 
 /// Puts every item into `rows`, and how many there are into `count`.
 #[inline]
-pub fn read_items(datagram: &[u8], rows: &mut [u64], count: &mut u64) -> Result<(), Refusal> {
-    let (numbers, length) = (rows.as_mut_ptr(), rows.len());
+pub fn read_items(
+    datagram: &[u8],
+    reduced_size: bool,
+    rows: &mut [u64],
+    count: &mut u64,
+) -> Result<(), Refusal> {
     // SAFETY: as for count_items.
-    unsafe { prunepocket_read_items(datagram.as_ptr(), datagram.len(), numbers, length, count) }
-        .refusal()
+    unsafe {
+        prunepocket_read_items(
+            datagram.as_ptr(),
+            datagram.len(),
+            reduced_size.into(),
+            rows.as_mut_ptr(),
+            rows.len(),
+            count,
+        )
+    }
+    .refusal()
 }
 
 /// Puts the message at the front of `buffer`, and its length into `written`.

@@ -38,11 +38,13 @@ impl Table {
         unsafe { prunepocket_sweep(*self, *reading) }
     }
 
-    /// Lends `answers`, the list that the calls' numbers go to.
+    /// Lends `answers`, the list that the calls' numbers go to. `reduced_size`
+    /// says whether reduced-size RTCP was agreed with the datagram's sender.
     #[inline]
     pub fn take_datagram(
         &self,
         datagram: &[u8],
+        reduced_size: bool,
         origin: &Origin,
         reading: &Reading,
         answers: &mut [u64],
@@ -54,6 +56,7 @@ impl Table {
                 *self,
                 datagram.as_ptr(),
                 datagram.len(),
+                reduced_size.into(),
                 *origin,
                 *reading,
                 answers.as_mut_ptr(),

@@ -22,7 +22,8 @@ static struct {
     table_t before;     /* before the last call that could change it */
     uint32_t stream[2]; /* group and media source of the reports */
     reading_t reading;
-    record_t record; /* the last report */
+    uint32_t reduced_size; /* whether it was agreed */
+    record_t record;       /* the last report */
     uint8_t *datagram;
     size_t length;
     target_t target;
@@ -237,8 +238,8 @@ static datagram_answered_t take(const uint8_t *datagram, size_t length, origin_t
                                 uint64_t numbers[MOST_CALLS])
 {
     bench.before = bench.table;
-    return prunepocket_take_datagram(bench.table, datagram, length, origin, bench.reading, numbers,
-                                     MOST_CALLS);
+    return prunepocket_take_datagram(bench.table, datagram, length, bench.reduced_size, origin,
+                                     bench.reading, numbers, MOST_CALLS);
 }
 
 /* Takes a message behind an RR in, which is one call: its number. */
@@ -286,6 +287,7 @@ static void step_table(void)
     due_words(0);
     check_equal("open", open_table(42, 7, 90000), PRUNEPOCKET_ACCEPTED);
     bench.reading = (reading_t){SECONDS(1000), 9000000};
+    bench.reduced_size = 0;
 }
 
 static void step_open(void)
@@ -297,6 +299,18 @@ static void step_reading(void)
 {
     due_words(0);
     bench.reading = (reading_t){time_of(asked[0]), number(asked[1])};
+}
+
+static void step_agreed(void)
+{
+    due_words(0);
+    bench.reduced_size = 1;
+}
+
+static void step_not_agreed(void)
+{
+    due_words(0);
+    bench.reduced_size = 0;
 }
 
 static void step_stream(void)
@@ -395,7 +409,8 @@ static void step_items(void)
 {
     uint64_t count = 0;
 
-    if (!check_refused(prunepocket_count_items(bench.datagram, bench.length, &count)))
+    if (!check_refused(prunepocket_count_items(bench.datagram, bench.length, bench.reduced_size,
+                                               &count)))
         check_number(count);
 }
 
@@ -406,10 +421,11 @@ static void step_item(void)
     uint64_t kind = 0;
     uint64_t source = 0;
 
-    if (check_refused(prunepocket_item_field(bench.datagram, bench.length, index,
-                                             PRUNEPOCKET_FIELD_KIND, &kind)))
+    if (check_refused(prunepocket_item_field(bench.datagram, bench.length, bench.reduced_size,
+                                             index, PRUNEPOCKET_FIELD_KIND, &kind)))
         return;
-    prunepocket_item_field(bench.datagram, bench.length, index, PRUNEPOCKET_FIELD_SOURCE, &source);
+    prunepocket_item_field(bench.datagram, bench.length, bench.reduced_size, index,
+                           PRUNEPOCKET_FIELD_SOURCE, &source);
     due_words(2);
     check_true("kind", kind < 4 && is(due[0], kinds[kind]));
     check_equal("source", source, number(due[1]));
@@ -555,6 +571,8 @@ static const struct step {
     {"table", 0, step_table},
     {"open", 3, step_open},
     {"reading", 2, step_reading},
+    {"reduced size agreed", 0, step_agreed},
+    {"reduced size not agreed", 0, step_not_agreed},
     {"stream", 2, step_stream},
     {"report", 5, step_report},
     {"farewell", 2, step_farewell},

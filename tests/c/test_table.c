@@ -680,10 +680,16 @@ static void test_none_fresh(void)
 /* ---- Whole datagrams ------------------------------------------------------------------------- */
 
 /* An empty RR, the report of 10, the settings, the report of 20, and a BYE of 20 and 30. */
-#define SETTINGS_PLACE (8 + PRUNEPOCKET_REPORT_BYTES)
+#define RR_BYTES 8
+#define SETTINGS_PLACE (RR_BYTES + PRUNEPOCKET_REPORT_BYTES)
 #define BYE_PLACE (SETTINGS_PLACE + PRUNEPOCKET_SETTINGS_BYTES + PRUNEPOCKET_REPORT_BYTES)
 #define DATAGRAM_BYTES (BYE_PLACE + 12)
 #define DATAGRAM_CALLS 4
+
+/* The first says that reduced size was not agreed, all others say that it was. */
+static const uint32_t flags[] = {0, 1, 2, 255, 256, 65536, 0x80000000, UINT32_MAX};
+
+#define NOT_AGREED 0
 
 static void put_report(uint8_t *packet, record_t record)
 {
@@ -700,7 +706,7 @@ static void put_report(uint8_t *packet, record_t record)
 
 static uint8_t *lend_datagram(void)
 {
-    static const uint8_t rr[] = {0x80, 201, 0, 1, 0, 0, 0, 1};
+    static const uint8_t rr[RR_BYTES] = {0x80, 201, 0, 1, 0, 0, 0, 1};
     static const uint8_t bye[] = {0x82, 203, 0, 2, 0, 0, 0, 20, 0, 0, 0, 30};
     uint8_t *datagram = allocate(DATAGRAM_BYTES);
     uint64_t written = 0;
@@ -722,8 +728,9 @@ static uint8_t *lend_datagram(void)
  * The table after the first bytes of a datagram from the unit of source 10, with a list that has
  * room for so many numbers. The numbers expected stand at its front; behind, it is as it was lent.
  */
-static table_t take(table_t table, const uint8_t *datagram, size_t length, size_t room,
-                    struct prunepocket_answer answer, const uint64_t *numbers, size_t count)
+static table_t take(table_t table, const uint8_t *datagram, size_t length, uint32_t reduced_size,
+                    size_t room, struct prunepocket_answer answer, const uint64_t *numbers,
+                    size_t count)
 {
     uint64_t *answers = allocate(room * sizeof *answers);
     datagram_answered_t *answered = allocate(sizeof *answered);
@@ -731,7 +738,8 @@ static table_t take(table_t table, const uint8_t *datagram, size_t length, size_
 
     for (size_t i = 0; i < room; i++)
         answers[i] = FILL;
-    *answered = prunepocket_take_datagram(table, datagram, length, unit(10), now, answers, room);
+    *answered = prunepocket_take_datagram(table, datagram, length, reduced_size, unit(10), now,
+                                          answers, room);
     check_answer("take_datagram",
                  (struct prunepocket_answer){number_at(answered, 0, 8), number_at(answered, 8, 8)},
                  answer.number, answer.place);
@@ -745,29 +753,29 @@ static table_t take(table_t table, const uint8_t *datagram, size_t length, size_
 }
 
 /* Refused, with the table and the list as before. */
-static void take_refused(table_t table, const uint8_t *datagram, size_t length, size_t room,
-                         uint64_t number, uint64_t place)
+static void take_refused(table_t table, const uint8_t *datagram, size_t length,
+                         uint32_t reduced_size, size_t room, uint64_t number, uint64_t place)
 {
     struct prunepocket_answer answer = {number, place};
-    table_t after = take(table, datagram, length, room, answer, NULL, 0);
+    table_t after = take(table, datagram, length, reduced_size, room, answer, NULL, 0);
 
     check_true("take_datagram: the table as before", same_table(&after, &table));
 }
 
-static void test_whole_datagrams(void)
+/* The datagram is accepted into several tables, whatever room the list has for more numbers. */
+static void check_taken(const uint8_t *datagram, size_t length, uint32_t reduced_size)
 {
     static const struct prunepocket_answer none;
     static const uint64_t numbers[] = {PRUNEPOCKET_ACCEPTED, PRUNEPOCKET_ACCEPTED,
                                        PRUNEPOCKET_ACCEPTED, PRUNEPOCKET_NO_MEMBER};
     static const uint64_t again[] = {PRUNEPOCKET_OTHER_ORIGIN, PRUNEPOCKET_ACCEPTED,
                                      PRUNEPOCKET_ACCEPTED, PRUNEPOCKET_OTHER_ORIGIN};
-    uint8_t *datagram = lend_datagram();
     record_t second = record_20();
     table_t one_by_one;
     table_t table;
 
     CASE("two reports, the settings and two farewells");
-    table = take(opened(), datagram, DATAGRAM_BYTES, DATAGRAM_CALLS, none, numbers, 4);
+    table = take(opened(), datagram, length, reduced_size, DATAGRAM_CALLS, none, numbers, 4);
     second.origin = unit(10);
     one_by_one = farewell(with_two(record_10(), second), 20, unit(10), PRUNEPOCKET_ACCEPTED);
     check_true("as the calls one by one", same_table(&table, &one_by_one));
@@ -775,36 +783,90 @@ static void test_whole_datagrams(void)
     check_equal("members", prunepocket_count_members(table), 1);
 
     CASE("a list that is longer than the calls");
-    take(opened(), datagram, DATAGRAM_BYTES, DATAGRAM_CALLS + 3, none, numbers, 4);
+    take(opened(), datagram, length, reduced_size, DATAGRAM_CALLS + 3, none, numbers, 4);
 
     CASE("numbers that another origin holds");
     table = with_two(twin_at(unit(11)), arrival(30));
-    take(table, datagram, DATAGRAM_BYTES, DATAGRAM_CALLS, none, again, 4);
+    take(table, datagram, length, reduced_size, DATAGRAM_CALLS, none, again, 4);
+}
 
-    CASE("datagrams without calls");
-    table = take(with_one(record_10()), datagram, 8, 0, none, NULL, 0);
+/* Without the RR in front, the datagram is accepted where reduced size was agreed. */
+static void test_whole_datagrams(void)
+{
+    static const struct prunepocket_answer none;
+    uint8_t *datagram = lend_datagram();
+    table_t table;
+
+    for (size_t i = 0; i < LENGTH(flags); i++) {
+        check_taken(datagram, DATAGRAM_BYTES, flags[i]);
+        if (i != NOT_AGREED)
+            check_taken(datagram + RR_BYTES, DATAGRAM_BYTES - RR_BYTES, flags[i]);
+
+        CASE("datagrams without calls");
+        table = take(with_one(record_10()), datagram, RR_BYTES, flags[i], 0, none, NULL, 0);
+        check_member(table, 0, record_10());
+    }
+
+    CASE("settings alone at reduced size");
+    table = take(with_one(record_10()), datagram + SETTINGS_PLACE, PRUNEPOCKET_SETTINGS_BYTES, 1, 0,
+                 none, NULL, 0);
     check_member(table, 0, record_10());
     free(datagram);
+}
+
+/* Refusals of a datagram that starts with the RR, or with the report behind it. */
+static void check_refused_datagrams(const uint8_t *datagram, size_t front, uint32_t reduced_size)
+{
+    size_t length = DATAGRAM_BYTES - front;
+    table_t table = with_two(record_10(), record_20());
+
+    CASE("lists that are shorter than the calls");
+    for (size_t room = 0; room < DATAGRAM_CALLS; room++)
+        take_refused(table, datagram + front, length, reduced_size, room,
+                     PRUNEPOCKET_SHORT_BUFFER, 0);
+
+    CASE("datagrams that are refused, whatever the list");
+    for (size_t room = 0; room <= DATAGRAM_CALLS; room++) {
+        take_refused(table, datagram + front, 0, reduced_size, room, PRUNEPOCKET_BAD_LENGTH, 0);
+        take_refused(table, datagram + front, length - 4, reduced_size, room,
+                     PRUNEPOCKET_BAD_PACKET, BYE_PLACE - front);
+    }
 }
 
 static void test_refused_datagrams(void)
 {
     uint8_t *datagram = lend_datagram();
-    table_t table;
+    table_t table = with_two(record_10(), record_20());
 
-    CASE("lists that are shorter than the calls");
-    table = with_two(record_10(), record_20());
-    for (size_t room = 0; room < DATAGRAM_CALLS; room++)
-        take_refused(table, datagram, DATAGRAM_BYTES, room, PRUNEPOCKET_SHORT_BUFFER, 0);
-
-    CASE("datagrams that are refused, whatever the list");
-    for (size_t room = 0; room <= DATAGRAM_CALLS; room++) {
-        take_refused(table, datagram, 0, room, PRUNEPOCKET_BAD_LENGTH, 0);
-        take_refused(table, datagram, DATAGRAM_BYTES - 4, room, PRUNEPOCKET_BAD_PACKET, BYE_PLACE);
+    for (size_t i = 0; i < LENGTH(flags); i++) {
+        check_refused_datagrams(datagram, 0, flags[i]);
+        if (i != NOT_AGREED)
+            check_refused_datagrams(datagram, RR_BYTES, flags[i]);
     }
+
+    CASE("no RR in front, and reduced size not agreed, whatever the list");
+    for (size_t room = 0; room <= DATAGRAM_CALLS; room++)
+        take_refused(table, datagram + RR_BYTES, DATAGRAM_BYTES - RR_BYTES, flags[NOT_AGREED],
+                     room, PRUNEPOCKET_BAD_FIRST, 0);
+    take_refused(table, datagram + BYE_PLACE, DATAGRAM_BYTES - BYE_PLACE, flags[NOT_AGREED], 2,
+                 PRUNEPOCKET_BAD_FIRST, 0);
+
+    CASE("settings that are too short behind the RR, and first");
     datagram[SETTINGS_PLACE + 3] = 7;
-    take_refused(table, datagram, DATAGRAM_BYTES, DATAGRAM_CALLS, PRUNEPOCKET_SHORT_CONTENT,
-                 SETTINGS_PLACE);
+    for (size_t i = 0; i < LENGTH(flags); i++) {
+        take_refused(table, datagram, DATAGRAM_BYTES, flags[i], DATAGRAM_CALLS,
+                     PRUNEPOCKET_SHORT_CONTENT, SETTINGS_PLACE);
+        take_refused(table, datagram + SETTINGS_PLACE, DATAGRAM_BYTES - SETTINGS_PLACE, flags[i],
+                     DATAGRAM_CALLS,
+                     i == NOT_AGREED ? PRUNEPOCKET_BAD_FIRST : PRUNEPOCKET_SHORT_CONTENT, 0);
+    }
+
+    CASE("a padded first packet, whose block is all padding");
+    datagram[RR_BYTES] |= 0x20;
+    datagram[SETTINGS_PLACE - 1] = PRUNEPOCKET_REPORT_BYTES - 8;
+    for (size_t i = 0; i < LENGTH(flags); i++)
+        take_refused(table, datagram + RR_BYTES, PRUNEPOCKET_REPORT_BYTES, flags[i],
+                     DATAGRAM_CALLS, PRUNEPOCKET_BAD_PADDING, 0);
     free(datagram);
 }
 
@@ -1029,13 +1091,15 @@ static record_t record_of(const uint64_t *row, origin_t origin)
 
 /* The table after each report and farewell of a datagram. */
 static table_t take_datagram(table_t table, const uint8_t *datagram, size_t length,
-                             origin_t origin)
+                             uint32_t reduced_size, origin_t origin)
 {
     uint64_t rows[4 * PRUNEPOCKET_ROW];
     uint64_t count = 0;
 
     check_answer("read_items",
-                 prunepocket_read_items(datagram, length, rows, LENGTH(rows), &count), 0, 0);
+                 prunepocket_read_items(datagram, length, reduced_size, rows, LENGTH(rows),
+                                        &count),
+                 0, 0);
     for (size_t i = 0; i < count; i++) {
         const uint64_t *row = rows + i * PRUNEPOCKET_ROW;
 
@@ -1048,11 +1112,12 @@ static table_t take_datagram(table_t table, const uint8_t *datagram, size_t leng
     return table;
 }
 
-static void test_datagrams(void)
+/* The datagrams of two units, each of which starts with an RR or with the message behind it. */
+static void check_host(size_t front, uint32_t reduced_size)
 {
     static const uint8_t bye[] = {0x80, 201, 0, 1, 0, 0, 0, 99, 0x82, 203, 0, 2,
                                   0,    0,   0, 10, 0, 0, 0, 20};
-    uint8_t datagram[8 + PRUNEPOCKET_REPORT_BYTES] = {0x80, 201, 0, 1, 0, 0, 0, 99};
+    uint8_t datagram[RR_BYTES + PRUNEPOCKET_REPORT_BYTES] = {0x80, 201, 0, 1, 0, 0, 0, 99};
     uint64_t written = 0;
     table_t table;
 
@@ -1060,16 +1125,24 @@ static void test_datagrams(void)
     table = with_one(record_10());
     check_answer("write_report",
                  prunepocket_write_report(20, 33, 1, GROUP, MEDIA, SECONDS(998), 8820000,
-                                          0x03E6C000, datagram + 8, sizeof datagram - 8, &written),
+                                          0x03E6C000, datagram + RR_BYTES,
+                                          sizeof datagram - RR_BYTES, &written),
                  0, 0);
-    table = take_datagram(table, datagram, sizeof datagram, unit(20));
+    table = take_datagram(table, datagram + front, sizeof datagram - front, reduced_size, unit(20));
     check_member(table, 1, record_20());
     check_target(choose(table, now), target_20);
 
     CASE("a BYE with both sources, from the second unit");
-    table = take_datagram(table, bye, sizeof bye, unit(20));
+    table = take_datagram(table, bye + front, sizeof bye - front, reduced_size, unit(20));
     check_member(table, 0, record_10());
     check_vacant(table, 1);
+}
+
+static void test_datagrams(void)
+{
+    check_host(0, 0);
+    check_host(0, 1);
+    check_host(RR_BYTES, 1);
 }
 
 /* Nothing is kept between calls. */

@@ -2,7 +2,7 @@
  * Calls both writers of prunepocket.h with buffers of every length up to LONGEST, and holds each
  * answer to messages written out word by word. Buffers are filled beforehand and looked at whole
  * afterwards. They are lent at their exact size from the heap, so that valgrind sees any step
- * outside of them.
+ * outside of them. What was written is read again, alone and behind an RR.
  */
 #include "check.h"
 
@@ -90,9 +90,82 @@ static void message_refused(const struct message *m, size_t length, uint64_t num
     free(buffer);
 }
 
+/* ---- Reading again --------------------------------------------------------------------------- */
+
+/* An RR without report blocks. */
+static const uint8_t rr[] = {0x80, 201, 0, 1, 0, 0, 0, 99};
+
+#define MOST_MESSAGES 2
+
+/* The row of a message that starts at a place. A report's block stands behind header and sender. */
+static void put_row(const struct message *m, size_t place, uint64_t row[PRUNEPOCKET_ROW])
+{
+    int is_report = m->size == PRUNEPOCKET_REPORT_BYTES;
+
+    row[PRUNEPOCKET_FIELD_KIND] = is_report ? PRUNEPOCKET_REPORT : PRUNEPOCKET_SETTINGS;
+    row[PRUNEPOCKET_FIELD_PLACE] = is_report ? place + 8 : place;
+    row[PRUNEPOCKET_FIELD_SOURCE] = m->sender;
+    row[PRUNEPOCKET_FIELD_GROUP] = m->group;
+    row[PRUNEPOCKET_FIELD_MEDIA] = m->media;
+    row[PRUNEPOCKET_FIELD_RECEIVED] = m->received;
+    row[PRUNEPOCKET_FIELD_RTP] = m->rtp;
+    row[PRUNEPOCKET_FIELD_PRESENTED] = m->presented;
+    row[PRUNEPOCKET_FIELD_PAYLOAD_TYPE] = is_report ? m->payload_type : 0;
+    row[PRUNEPOCKET_FIELD_P] = is_report ? m->p : 0;
+}
+
+/* The reader gives this number, and unless it is a refusal, these rows. */
+static void check_read(const uint8_t *datagram, size_t length, uint32_t reduced_size,
+                       uint64_t number, const uint64_t *expected, size_t items)
+{
+    uint64_t rows[MOST_MESSAGES * PRUNEPOCKET_ROW];
+    uint64_t count = FILL;
+    char text[80];
+
+    snprintf(text, sizeof text, "%zu bytes read, reduced_size %" PRIu32, length, reduced_size);
+    check_answer(text,
+                 prunepocket_read_items(datagram, length, reduced_size, rows,
+                                        MOST_MESSAGES * PRUNEPOCKET_ROW, &count),
+                 number, 0);
+    check_equal("count", count, number == 0 ? items : FILL);
+    for (size_t i = 0; count == items && i < items * PRUNEPOCKET_ROW; i++) {
+        snprintf(text, sizeof text, "number %zu of the rows", i);
+        check_equal(text, rows[i], expected[i]);
+    }
+}
+
+/*
+ * As a host does it: an RR or none, then the messages, each at its place in one datagram. Behind
+ * the RR they are read with either flag, and without it where reduced size was agreed.
+ */
+static void check_sent(const struct message *messages, size_t items, size_t front)
+{
+    size_t length = front;
+    size_t end = front;
+    uint64_t rows[MOST_MESSAGES * PRUNEPOCKET_ROW];
+    uint8_t *datagram;
+
+    for (size_t i = 0; i < items; i++)
+        length += messages[i].size;
+    datagram = allocate(length);
+    memcpy(datagram, rr, front);
+    for (size_t i = 0; i < items; i++) {
+        uint64_t written = 0;
+
+        check_answer("message",
+                     write_message(&messages[i], datagram + end, length - end, &written), 0, 0);
+        put_row(&messages[i], end, rows + i * PRUNEPOCKET_ROW);
+        end += written;
+    }
+    check_equal("bytes", end, length);
+    check_read(datagram, length, 0, front > 0 ? 0 : PRUNEPOCKET_BAD_FIRST, rows, items);
+    check_read(datagram, length, 1, 0, rows, items);
+    free(datagram);
+}
+
 /* ---- One message ----------------------------------------------------------------------------- */
 
-/* The message is written wherever it has room, and gets 10 elsewhere. */
+/* The message is written wherever it has room, and gets 10 elsewhere. It is read as it was told. */
 static void check_written(int case_line, const char *case_name, struct message m,
                           const uint32_t *words)
 {
@@ -102,6 +175,8 @@ static void check_written(int case_line, const char *case_name, struct message m
         message_refused(&m, length, 10);
     for (size_t length = m.size; length <= LONGEST; length++)
         message_written(&m, length, words);
+    check_sent(&m, 1, 0);
+    check_sent(&m, 1, sizeof rr);
 }
 
 /* 11 comes before 10, so that no length gives another answer. */
@@ -202,41 +277,18 @@ static void test_refusals(void)
     CHECK_REFUSED("group 4294967295 of empty settings", settings(UINT32_MAX, 0));
 }
 
-/* As a host does it: an RR, then both messages, each at its place in one datagram. */
 static void test_datagram(void)
 {
-    static const uint8_t rr[] = {0x80, 201, 0, 1, 0, 0, 0, 99};
-    struct message first = report(33, 1, 42, 0x03E6C000);
-    struct message second = settings(42, PRESENTED);
-    static const uint64_t expected[2 * PRUNEPOCKET_ROW] = {
-        1, 16, 20, 42, 7, RECEIVED, 8820000, 0x03E6C000, 33, 1,
-        2, 48, 1,  42, 7, RECEIVED, 8820000, PRESENTED,  0,  0,
-    };
-    size_t length = sizeof rr + first.size + second.size;
-    uint8_t *datagram = allocate(length);
-    uint64_t rows[2 * PRUNEPOCKET_ROW];
-    uint64_t end = sizeof rr;
-    uint64_t written = 0;
-    uint64_t count = 0;
-    char text[80];
+    const struct message both[] = {report(33, 1, 42, 0x03E6C000), settings(42, PRESENTED)};
+    const struct message turned[] = {both[1], both[0]};
 
     line = __LINE__;
     name = "both messages behind an RR";
-    memcpy(datagram, rr, sizeof rr);
-    check_answer("report", write_message(&first, datagram + end, length - end, &written), 0, 0);
-    end += written;
-    check_answer("settings", write_message(&second, datagram + end, length - end, &written), 0,
-                 0);
-    end += written;
-    check_equal("bytes", end, length);
-    check_answer("read_items",
-                 prunepocket_read_items(datagram, length, rows, 2 * PRUNEPOCKET_ROW, &count), 0, 0);
-    check_equal("count", count, 2);
-    for (size_t i = 0; count == 2 && i < 2 * PRUNEPOCKET_ROW; i++) {
-        snprintf(text, sizeof text, "number %zu of the rows", i);
-        check_equal(text, rows[i], expected[i]);
-    }
-    free(datagram);
+    check_sent(both, 2, sizeof rr);
+    check_sent(turned, 2, sizeof rr);
+    name = "both messages alone";
+    check_sent(both, 2, 0);
+    check_sent(turned, 2, 0);
 }
 
 int main(void)

@@ -15,6 +15,8 @@ const MOST_EVENTS: usize = 40;
 #[derive(Clone, Debug, PartialEq, Eq)]
 pub struct Arrival {
     pub datagram: Vec<u8>,
+    /// Whether reduced size was agreed with the sender.
+    pub reduced_size: bool,
     pub origin: Origin,
     pub reading: Reading,
     /// The length of the list that is lent.
@@ -59,9 +61,11 @@ fn arrival(rng: &mut Rng, world: &mut World) -> Arrival {
     world.advance(rng);
     let (_, origin) = world.sender(rng);
     let datagram = datagram(rng, world, &origin);
+    let reduced_size = rng.chance(50);
     Arrival {
-        length: list_length(rng, &datagram),
+        length: list_length(rng, &datagram, reduced_size),
         datagram,
+        reduced_size,
         origin,
         reading: world.clock,
         choice: world.some_reading(rng),
@@ -73,9 +77,10 @@ fn datagram(rng: &mut Rng, world: &mut World, origin: &Origin) -> Vec<u8> {
     if rng.chance(20) {
         return generator::datagram(rng);
     }
+    let start = generator::start(rng);
     let mut compound = match rng.chance(65) {
-        true => generator::crowded(rng),
-        false => generator::valid(rng),
+        true => generator::crowded(rng, start),
+        false => generator::valid(rng, start),
     };
     fit(rng, world, origin, &mut compound);
     if rng.chance(35) {
@@ -142,8 +147,8 @@ fn settings(rng: &mut Rng, world: &mut World, source: u32) -> Settings {
 }
 
 /// Exactly as long as the calls are many, longer, or at times too short.
-fn list_length(rng: &mut Rng, datagram: &[u8]) -> usize {
-    let items = decode(datagram).unwrap_or_default();
+fn list_length(rng: &mut Rng, datagram: &[u8], reduced_size: bool) -> usize {
+    let items = decode(datagram, reduced_size).unwrap_or_default();
     let calls = items
         .iter()
         .filter(|item| !matches!(item.item, Item::Settings(_)))
@@ -166,9 +171,11 @@ mod tests {
         for _ in 0..2_000 {
             let (_, mut world) = history_with_world(&mut rng);
             let (_, origin) = world.sender(&mut rng);
-            for mut compound in [generator::valid(&mut rng), generator::crowded(&mut rng)] {
+            let start = generator::start(&mut rng);
+            for make in [generator::valid, generator::crowded] {
+                let mut compound = make(&mut rng, start);
                 fit(&mut rng, &mut world, &origin, &mut compound);
-                assert_eq!(decode(&compound.bytes), Ok(compound.items));
+                assert_eq!(decode(&compound.bytes, true), Ok(compound.items));
             }
         }
     }

@@ -1,7 +1,8 @@
 //! The bench cases of cases.txt, and what decoder and archive answer to them.
 //!
 //! A case is a name, a datagram in hex (`repeat N BYTE` stands for N equal
-//! bytes), an index where one item is asked for, and the expected lines.
+//! bytes), whether reduced size was agreed where that matters, an index where
+//! one item is asked for, and the expected lines.
 
 use crate::decoder::decode;
 use crate::items::{Refusal, ROW};
@@ -10,8 +11,18 @@ use crate::items::{Refusal, ROW};
 pub struct Case {
     pub name: String,
     pub datagram: Vec<u8>,
+    /// None where the expected lines are those with either value.
+    pub reduced_size: Option<bool>,
     pub index: Option<u64>,
     pub expected: Vec<String>,
+}
+
+impl Case {
+    /// The values of the flag that the case is run with.
+    pub fn values(&self) -> Vec<bool> {
+        self.reduced_size
+            .map_or(vec![false, true], |value| vec![value])
+    }
 }
 
 /// Panics where the text is malformed, since nothing can be tested then.
@@ -27,6 +38,11 @@ pub fn parse(text: &str) -> Vec<Case> {
 fn parse_case(lines: &[&str]) -> Option<Case> {
     let (name, rest) = lines.split_first()?;
     let (datagram, rest) = rest.split_first()?;
+    let (reduced_size, rest) = match *rest.first()? {
+        "reduced size agreed" => (Some(true), &rest[1..]),
+        "reduced size not agreed" => (Some(false), &rest[1..]),
+        _ => (None, rest),
+    };
     let (index, rest) = match rest.first()?.strip_prefix("index ") {
         Some(index) => (Some(index.parse().ok()?), &rest[1..]),
         None => (None, rest),
@@ -38,6 +54,7 @@ fn parse_case(lines: &[&str]) -> Option<Case> {
     Some(Case {
         name: name.strip_prefix("case ")?.to_string(),
         datagram: parse_bytes(datagram.strip_prefix("datagram")?)?,
+        reduced_size,
         index,
         expected: expected.filter(|lines| !lines.is_empty())?,
     })
@@ -69,9 +86,9 @@ fn parse_hex(word: &str) -> Option<Vec<u8>> {
         .collect()
 }
 
-/// The decoder's lines for a case.
-pub fn decoder_lines(case: &Case) -> Vec<String> {
-    let items = match decode(&case.datagram) {
+/// The decoder's lines for a case, with one of its values of the flag.
+pub fn decoder_lines(case: &Case, reduced_size: bool) -> Vec<String> {
+    let items = match decode(&case.datagram, reduced_size) {
         Ok(items) => items,
         Err(refusal) => return vec![refusal.to_string()],
     };
@@ -91,40 +108,40 @@ pub fn decoder_lines(case: &Case) -> Vec<String> {
 
 /// The archive's lines for a case, by index where the case has one, else all
 /// items both as rows and by index.
-pub fn archive_lines(case: &Case) -> Vec<String> {
+pub fn archive_lines(case: &Case, reduced_size: bool) -> Vec<String> {
     let answer = match case.index {
-        None => all_lines(&case.datagram),
-        Some(index) => line_at(&case.datagram, index).map(|line| vec![line]),
+        None => all_lines(&case.datagram, reduced_size),
+        Some(index) => line_at(&case.datagram, reduced_size, index).map(|line| vec![line]),
     };
     answer.unwrap_or_else(|refusal| vec![refusal.to_string()])
 }
 
-fn all_lines(datagram: &[u8]) -> Result<Vec<String>, Refusal> {
+fn all_lines(datagram: &[u8], reduced_size: bool) -> Result<Vec<String>, Refusal> {
     let mut count = 0;
-    prunepocket_sys::count_items(datagram, &mut count)?;
+    prunepocket_sys::count_items(datagram, reduced_size, &mut count)?;
     let mut rows = vec![0; ROW * count as usize];
     let mut rows_count = 0;
-    prunepocket_sys::read_items(datagram, &mut rows, &mut rows_count)?;
+    prunepocket_sys::read_items(datagram, reduced_size, &mut rows, &mut rows_count)?;
     let mut lines = vec![format!("items {rows_count}")];
     for (index, row) in rows.chunks_exact(ROW).enumerate() {
         let line = row_line(row);
-        let by_index = line_at(datagram, index as u64)?;
+        let by_index = line_at(datagram, reduced_size, index as u64)?;
         assert_eq!(line, by_index, "the row and the fields of item {index}");
         lines.push(line);
     }
     Ok(lines)
 }
 
-fn line_at(datagram: &[u8], index: u64) -> Result<String, Refusal> {
+fn line_at(datagram: &[u8], reduced_size: bool, index: u64) -> Result<String, Refusal> {
     let mut row = [0; ROW];
-    prunepocket_sys::item_field(datagram, index, 0, &mut row[0])?;
+    prunepocket_sys::item_field(datagram, reduced_size, index, 0, &mut row[0])?;
     let fields = match row[0] {
         1 => 10,
         2 => 8,
         _ => 3,
     };
     for (field, value) in row[..fields].iter_mut().enumerate() {
-        prunepocket_sys::item_field(datagram, index, field as u64, value)?;
+        prunepocket_sys::item_field(datagram, reduced_size, index, field as u64, value)?;
     }
     Ok(row_line(&row))
 }

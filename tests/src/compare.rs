@@ -1,7 +1,10 @@
-//! The comparison of the archive with the decoder, datagram by datagram:
-//! answers, every field and row, and the lent memory after refusals.
+//! The comparison of the archive with the decoder, datagram by datagram and
+//! with both values of the flag for reduced size: answers, every field and row,
+//! and the lent memory after refusals. Then that of both values, without the
+//! decoder.
 
 use crate::decoder::{decode_with, Fault};
+use crate::first_packets::FirstPackets;
 use crate::generator::Rng;
 use crate::items::{PlacedItem, Refusal, ROW};
 use std::fmt::{Arguments, Debug};
@@ -12,7 +15,7 @@ pub(crate) const BEFORE: u64 = 0xB4F0_2E5E_11E1_D0A7;
 /// Numbers on both sides of a lent array that must stay as before.
 const GUARD: usize = 2 * ROW;
 
-/// More than the rows of the longest datagram, 494 farewells.
+/// More than the rows of the longest datagram, 496 farewells.
 const ARENA: usize = 6000;
 
 /// Field numbers that no item has. The last two are field 0 or 2 in 32 bits.
@@ -37,11 +40,32 @@ pub type Verdict = Result<(), String>;
 #[derive(Default)]
 pub struct Tally {
     pub datagrams: u64,
-    pub accepted: u64,
-    /// By number: 1 to 7 datagrams, 9 and 10 calls.
-    pub refusals: [u64; 11],
-    /// By kind: 1 reports, 2 settings, 3 farewells.
-    pub kinds: [u64; 4],
+    /// By the value of the flag and the answer: 0 and 1 to 7 datagrams, 9 and
+    /// 10 calls.
+    pub answers: [[u64; 11]; 2],
+    /// By the value of the flag and the kind: 1 reports, 2 settings, 3
+    /// farewells.
+    pub kinds: [[u64; 4]; 2],
+    /// Datagrams that both values answer alike.
+    pub alike: u64,
+    /// Datagrams refused with 4 where reduced size was not agreed, by the
+    /// answer where it was.
+    pub beside_four: [u64; 8],
+    pub firsts: FirstPackets,
+}
+
+/// What a reader is told.
+#[derive(Clone, Copy)]
+struct Told<'a> {
+    datagram: &'a [u8],
+    reduced_size: bool,
+}
+
+impl Told<'_> {
+    /// The flag's place in a tally.
+    fn flag(&self) -> usize {
+        usize::from(self.reduced_size)
+    }
 }
 
 pub struct Comparison {
@@ -63,66 +87,77 @@ impl Comparison {
     }
 
     pub fn check(&mut self, datagram: &[u8]) -> Verdict {
-        let expected = decode_with(datagram, self.fault);
         let lent = Lent::new(&mut self.rng, datagram);
         self.tally.datagrams += 1;
-        self.check_count(lent.datagram(), &expected)?;
+        for reduced_size in [false, true] {
+            let told = Told {
+                datagram: lent.datagram(),
+                reduced_size,
+            };
+            self.check_told(told)
+                .map_err(|difference| format!("reduced size {reduced_size}, {difference}"))?;
+        }
+        self.check_alike(lent.datagram())
+    }
+
+    fn check_told(&mut self, told: Told) -> Verdict {
+        let expected = decode_with(told.datagram, told.reduced_size, self.fault);
+        check_count(told, &expected)?;
+        let refusal = expected.as_ref().err().copied();
+        let firsts = &mut self.tally.firsts;
+        firsts.count(told.datagram, told.reduced_size, refusal);
         match &expected {
-            Ok(items) => self.check_accepted(lent.datagram(), items),
-            Err(refusal) => self.check_refused(lent.datagram(), *refusal),
+            Ok(items) => self.check_accepted(told, items),
+            Err(refusal) => self.check_refused(told, *refusal),
         }
     }
 
-    fn check_count(&self, datagram: &[u8], expected: &Answer) -> Verdict {
-        let mut count = BEFORE;
-        let answer = prunepocket_sys::count_items(datagram, &mut count);
-        match expected {
-            Ok(items) => {
-                same(format_args!("the count call"), &answer, &Ok(()))?;
-                same(format_args!("the count"), &count, &(items.len() as u64))
-            }
-            Err(refusal) => {
-                same(format_args!("the count call"), &answer, &Err(*refusal))?;
-                same(format_args!("the count after a refusal"), &count, &BEFORE)
-            }
-        }
-    }
-
-    fn check_refused(&mut self, datagram: &[u8], refusal: Refusal) -> Verdict {
-        self.tally.refusals[refusal.number as usize] += 1;
-        let indices = [0, self.rng.below(600) as u64, u64::MAX];
-        let fields = [self.rng.below(ROW) as u64, self.rng.pick(&NO_FIELDS)];
-        for index in indices {
-            for field in fields {
-                check_field(datagram, index, field, Err(refusal))?;
-            }
-        }
-        // One array too short for anything, one of any length.
-        for length in [0, self.rng.below(ARENA)] {
-            self.check_rows(datagram, length, Err(refusal))?;
+    /// The archive with both values, without the decoder.
+    fn check_alike(&mut self, datagram: &[u8]) -> Verdict {
+        let questions = Questions::new(&mut self.rng, datagram);
+        let [not_agreed, agreed] = [false, true].map(|flag| questions.ask(datagram, flag));
+        match compare_values(&not_agreed, &agreed, |asked| asked.number)? {
+            Values::Alike => self.tally.alike += 1,
+            Values::FourAlone => self.tally.beside_four[agreed[0].number as usize] += 1,
         }
         Ok(())
     }
 
-    fn check_accepted(&mut self, datagram: &[u8], items: &[PlacedItem]) -> Verdict {
-        self.tally.accepted += 1;
-        for item in items {
-            self.tally.kinds[item.kind() as usize] += 1;
+    fn check_refused(&mut self, told: Told, refusal: Refusal) -> Verdict {
+        self.tally.answers[told.flag()][refusal.number as usize] += 1;
+        let indices = [0, self.rng.below(600) as u64, u64::MAX];
+        let fields = [self.rng.below(ROW) as u64, self.rng.pick(&NO_FIELDS)];
+        for index in indices {
+            for field in fields {
+                check_field(told, index, field, Err(refusal))?;
+            }
         }
-        self.check_all_rows(datagram, items)?;
-        self.check_indices(datagram, items)
+        // One array too short for anything, one of any length.
+        for length in [0, self.rng.below(ARENA)] {
+            self.check_rows(told, length, Err(refusal))?;
+        }
+        Ok(())
+    }
+
+    fn check_accepted(&mut self, told: Told, items: &[PlacedItem]) -> Verdict {
+        self.tally.answers[told.flag()][0] += 1;
+        for item in items {
+            self.tally.kinds[told.flag()][item.kind() as usize] += 1;
+        }
+        self.check_all_rows(told, items)?;
+        self.check_indices(told, items)
     }
 
     /// Arrays that are exactly long enough, longer and too short.
-    fn check_all_rows(&mut self, datagram: &[u8], items: &[PlacedItem]) -> Verdict {
+    fn check_all_rows(&mut self, told: Told, items: &[PlacedItem]) -> Verdict {
         let exact = ROW * items.len();
-        self.check_rows(datagram, exact, Ok(items))?;
+        self.check_rows(told, exact, Ok(items))?;
         let longer = exact + self.rng.between(1, 3 * ROW);
-        self.check_rows(datagram, longer, Ok(items))?;
+        self.check_rows(told, longer, Ok(items))?;
         if exact > 0 {
             for length in [exact - 1, self.rng.below(exact)] {
-                self.check_rows(datagram, length, Err(SHORT_BUFFER))?;
-                self.tally.refusals[10] += 1;
+                self.check_rows(told, length, Err(SHORT_BUFFER))?;
+                self.tally.answers[told.flag()][10] += 1;
             }
         }
         Ok(())
@@ -130,12 +165,14 @@ impl Comparison {
 
     fn check_rows(
         &mut self,
-        datagram: &[u8],
+        told: Told,
         length: usize,
         expected: Result<&[PlacedItem], Refusal>,
     ) -> Verdict {
         let mut count = BEFORE;
-        let answer = prunepocket_sys::read_items(datagram, self.arena.lend(length), &mut count);
+        let rows = self.arena.lend(length);
+        let answer =
+            prunepocket_sys::read_items(told.datagram, told.reduced_size, rows, &mut count);
         let (expected_answer, expected_count, items) = match expected {
             Ok(items) => (Ok(()), items.len() as u64, items),
             Err(refusal) => (Err(refusal), BEFORE, &[][..]),
@@ -147,7 +184,7 @@ impl Comparison {
     }
 
     /// First, last and some other items, and indices that have no item.
-    fn check_indices(&mut self, datagram: &[u8], items: &[PlacedItem]) -> Verdict {
+    fn check_indices(&mut self, told: Told, items: &[PlacedItem]) -> Verdict {
         let count = items.len() as u64;
         if count > 0 {
             let some = self.rng.below(items.len()) as u64;
@@ -156,34 +193,146 @@ impl Comparison {
             indices.sort();
             indices.dedup();
             for index in indices {
-                self.check_item(datagram, index, &items[index as usize])?;
+                self.check_item(told, index, &items[index as usize])?;
             }
         }
         for index in [count, count + 1, 1 << 32, u64::MAX] {
             for field in [0, self.rng.below(ROW) as u64, u64::MAX] {
-                check_field(datagram, index, field, Err(NO_SUCH_ITEM))?;
-                self.tally.refusals[9] += 1;
+                check_field(told, index, field, Err(NO_SUCH_ITEM))?;
+                self.tally.answers[told.flag()][9] += 1;
             }
         }
         Ok(())
     }
 
-    fn check_item(&mut self, datagram: &[u8], index: u64, item: &PlacedItem) -> Verdict {
+    fn check_item(&mut self, told: Told, index: u64, item: &PlacedItem) -> Verdict {
         for field in (0..ROW as u64).chain(NO_FIELDS) {
             let expected = item.field(field).ok_or(NO_SUCH_ITEM);
-            self.tally.refusals[9] += u64::from(expected.is_err());
-            check_field(datagram, index, field, expected)?;
+            self.tally.answers[told.flag()][9] += u64::from(expected.is_err());
+            check_field(told, index, field, expected)?;
         }
         Ok(())
     }
 }
 
-fn check_field(datagram: &[u8], index: u64, field: u64, expected: Result<u64, Refusal>) -> Verdict {
+fn check_count(told: Told, expected: &Answer) -> Verdict {
+    let mut count = BEFORE;
+    let answer = prunepocket_sys::count_items(told.datagram, told.reduced_size, &mut count);
+    match expected {
+        Ok(items) => {
+            same(format_args!("the count call"), &answer, &Ok(()))?;
+            same(format_args!("the count"), &count, &(items.len() as u64))
+        }
+        Err(refusal) => {
+            same(format_args!("the count call"), &answer, &Err(*refusal))?;
+            same(format_args!("the count after a refusal"), &count, &BEFORE)
+        }
+    }
+}
+
+fn check_field(told: Told, index: u64, field: u64, expected: Result<u64, Refusal>) -> Verdict {
     let mut value = BEFORE;
-    let answer = prunepocket_sys::item_field(datagram, index, field, &mut value);
+    let answer =
+        prunepocket_sys::item_field(told.datagram, told.reduced_size, index, field, &mut value);
     let call = format_args!("field {field} at index {index}");
     same(call, &answer, &expected.map(|_| ()))?;
     same(call, &value, &expected.unwrap_or(BEFORE))
+}
+
+/// What the two values of the flag make of one datagram.
+#[derive(Clone, Copy, Debug, PartialEq, Eq)]
+pub(crate) enum Values {
+    Alike,
+    /// Refused with 4 where reduced size was not agreed.
+    FourAlone,
+}
+
+/// The archive's answers to the same calls with both values. Where reduced size
+/// was agreed, 4 is never answered. Where it was not, 4 is the answer to every
+/// call, or both values are answered alike in everything.
+pub(crate) fn compare_values<T: PartialEq + Debug>(
+    not_agreed: &[T],
+    agreed: &[T],
+    number: impl Fn(&T) -> u64,
+) -> Result<Values, String> {
+    let is_four = |answer: &T| number(answer) == 4;
+    if agreed.iter().any(is_four) {
+        return Err(String::from("4 where reduced size was agreed"));
+    }
+    if not_agreed.iter().all(is_four) {
+        return Ok(Values::FourAlone);
+    }
+    match not_agreed == agreed {
+        true => Ok(Values::Alike),
+        false => Err(format!("not agreed {not_agreed:?}, but agreed {agreed:?}")),
+    }
+}
+
+/// What the archive is asked about a datagram with each value of the flag.
+struct Questions {
+    /// The lengths of the arrays that rows are read into.
+    lengths: [usize; 3],
+    /// Indices with fields.
+    fields: [(u64, u64); 4],
+}
+
+/// What came of a call: the refusal, or zeros, and all that was lent.
+#[derive(Debug, PartialEq, Eq)]
+struct Asked {
+    number: u64,
+    place: u64,
+    lent: Vec<u64>,
+}
+
+impl Questions {
+    /// Around the item count where reduced size was agreed.
+    fn new(rng: &mut Rng, datagram: &[u8]) -> Self {
+        let mut count = 0;
+        // Beside a refusal, the questions of no items.
+        let _ = prunepocket_sys::count_items(datagram, true, &mut count);
+        let exact = ROW * count as usize;
+        let field = rng.below(ROW) as u64;
+        Questions {
+            lengths: [0, exact.saturating_sub(1), exact + rng.below(ROW)],
+            fields: [
+                (0, 0),
+                (rng.below(count as usize + 1) as u64, field),
+                (count.saturating_sub(1), 1),
+                (count, field),
+            ],
+        }
+    }
+
+    /// The count first, then the rows and the fields.
+    fn ask(&self, datagram: &[u8], reduced_size: bool) -> Vec<Asked> {
+        let mut count = BEFORE;
+        let answer = prunepocket_sys::count_items(datagram, reduced_size, &mut count);
+        let mut asked = vec![Asked::new(answer, vec![count])];
+        for length in self.lengths {
+            let (mut rows, mut count) = (vec![BEFORE; length], BEFORE);
+            let answer = prunepocket_sys::read_items(datagram, reduced_size, &mut rows, &mut count);
+            rows.push(count);
+            asked.push(Asked::new(answer, rows));
+        }
+        for (index, field) in self.fields {
+            let mut value = BEFORE;
+            let answer =
+                prunepocket_sys::item_field(datagram, reduced_size, index, field, &mut value);
+            asked.push(Asked::new(answer, vec![value]));
+        }
+        asked
+    }
+}
+
+impl Asked {
+    fn new(answer: Result<(), Refusal>, lent: Vec<u64>) -> Self {
+        let Refusal { number, place } = answer.err().unwrap_or(Refusal::new(0, 0));
+        Asked {
+            number,
+            place,
+            lent,
+        }
+    }
 }
 
 pub(crate) fn same<T: PartialEq + Debug>(name: Arguments, archive: &T, expected: &T) -> Verdict {
@@ -263,5 +412,41 @@ impl Arena {
             ));
         }
         Ok(())
+    }
+}
+
+#[cfg(test)]
+mod tests {
+    use super::{compare_values, Values};
+
+    /// Each answer is a number, and what was lent.
+    type Answers = [(u64, u64); 2];
+
+    fn compared(not_agreed: Answers, agreed: Answers) -> Result<Values, String> {
+        compare_values(&not_agreed, &agreed, |answer| answer.0)
+    }
+
+    #[test]
+    fn values_that_are_answered_unlike_are_found() {
+        let accepted = [(0, 1), (0, 2)];
+        let refused = [(5, 9), (5, 9)];
+        let four = [(4, 9), (4, 9)];
+        assert_eq!(compared(accepted, accepted), Ok(Values::Alike));
+        assert_eq!(compared(refused, refused), Ok(Values::Alike));
+        assert_eq!(compared(four, accepted), Ok(Values::FourAlone));
+        assert_eq!(compared(four, refused), Ok(Values::FourAlone));
+        let unlike = [
+            (four, four),
+            (accepted, four),
+            (accepted, refused),
+            (refused, accepted),
+            (accepted, [(0, 1), (0, 3)]),
+            (accepted, [(0, 1), (4, 2)]),
+            ([(4, 9), (0, 2)], accepted),
+        ];
+        for (not_agreed, agreed) in unlike {
+            let answers = (not_agreed, agreed);
+            assert!(compared(not_agreed, agreed).is_err(), "{answers:?}");
+        }
     }
 }

@@ -1,16 +1,20 @@
 //! The comparison of the archive's intake of whole datagrams with the
-//! independent one: the answer, the whole list, all members and a choice.
+//! independent one: the answer, the whole list, all members and a choice. Then
+//! that of both values of the flag for reduced size, without the independent
+//! one.
 
 use crate::archive;
 use crate::arrivals::{Arrival, Course, Event};
-use crate::compare::{same, Lent, Verdict, BEFORE};
+use crate::compare::{compare_values, same, Lent, Values, Verdict, BEFORE};
 use crate::compare_table::fewest;
 use crate::decoder::decode;
+use crate::first_packets::FirstPackets;
 use crate::generator::Rng;
 use crate::intake::{Answer, Fault, Intake};
-use crate::items::Item;
+use crate::items::{Item, Refusal};
 use crate::members::{Call, Reading};
-use prunepocket_sys::{Place, Table};
+use prunepocket_sys::{DatagramAnswered, Place, Table};
+use std::slice::from_ref;
 
 /// Numbers on both sides of a lent list that must stay as before.
 const GUARD: usize = 16;
@@ -22,8 +26,14 @@ pub const KINDS: [&str; 2] = ["report", "farewell"];
 #[derive(Default)]
 pub struct Tally {
     pub courses: u64,
-    /// Datagrams by their answer, a refusal's number or 0.
-    pub datagrams: [u64; 11],
+    /// Datagrams by their value of the flag and their answer, a refusal's number
+    /// or 0.
+    pub datagrams: [[u64; 11]; 2],
+    pub firsts: FirstPackets,
+    /// Datagrams that both values answer alike, and those that are refused with
+    /// 4 with one of them alone.
+    pub alike: u64,
+    pub beside_four: u64,
     /// Calls by kind and by their answer, a refusal's number or 0.
     pub calls: [[u64; 20]; KINDS.len()],
     /// Settings that were passed by.
@@ -44,13 +54,23 @@ pub struct Tally {
 impl Tally {
     /// Datagrams that were taken in, refused or not.
     pub fn taken(&self) -> u64 {
-        self.datagrams.iter().sum()
+        self.datagrams.iter().flatten().sum()
+    }
+
+    /// A datagram's answer, by its flag and its first packet. 10 is of the list.
+    fn count_answer(&mut self, arrival: &Arrival, answer: &Answer) {
+        let (number, place) = (answer.number, answer.place);
+        self.datagrams[usize::from(arrival.reduced_size)][number as usize] += 1;
+        let refusal = Refusal { number, place };
+        let refusal = (!matches!(number, 0 | 10)).then_some(refusal);
+        let firsts = &mut self.firsts;
+        firsts.count(&arrival.datagram, arrival.reduced_size, refusal);
     }
 
     /// An accepted datagram's items, with the numbers of its calls.
-    fn count_items(&mut self, datagram: &[u8], numbers: &[u64]) {
+    fn count_items(&mut self, arrival: &Arrival, numbers: &[u64]) {
         let mut rest = numbers.iter();
-        for item in decode(datagram).unwrap_or_default() {
+        for item in decode(&arrival.datagram, arrival.reduced_size).unwrap_or_default() {
             let kind = match item.item {
                 Item::Report(_) => 0,
                 Item::Farewell { .. } => 1,
@@ -114,10 +134,10 @@ impl IntakeComparison {
     }
 
     fn check_arrival(&mut self, sides: &mut Sides, arrival: &Arrival) -> Verdict {
-        let Answer { number, count, .. } = self.check_take(sides, arrival)?;
-        self.tally.datagrams[number as usize] += 1;
-        if number == 0 {
-            self.tally.spare += arrival.length as u64 - count;
+        let answer = self.check_take(sides, arrival)?;
+        self.tally.count_answer(arrival, &answer);
+        if answer.number == 0 {
+            self.tally.spare += arrival.length as u64 - answer.count;
         }
         self.check_members(sides)?;
         self.check_choice(sides, &arrival.reading)?;
@@ -128,35 +148,45 @@ impl IntakeComparison {
     /// After a refusal the table has all fields as before.
     fn check_take(&mut self, sides: &mut Sides, arrival: &Arrival) -> Result<Answer, String> {
         let lent = Lent::new(&mut self.rng, &arrival.datagram);
-        let mut memory = vec![BEFORE; GUARD + arrival.length + GUARD];
-        let mut expected_memory = memory.clone();
         let list = GUARD..GUARD + arrival.length;
+        let mut expected_memory = vec![BEFORE; GUARD + arrival.length + GUARD];
         let expected = sides
             .intake
             .take(arrival, &mut expected_memory[list.clone()]);
-        let taken = sides.table.take_datagram(
-            lent.datagram(),
-            &arrival.origin,
-            &arrival.reading,
-            &mut memory[list.clone()],
-        );
+        let both = [false, true].map(|flag| take(&sides.table, &lent, flag, arrival));
+        let (taken, memory) = &both[usize::from(arrival.reduced_size)];
         let answer = Answer {
             number: taken.number,
             place: taken.place,
             count: taken.count,
         };
-        let call = format_args!("a list of {}", arrival.length);
+        let call = format_args!(
+            "reduced size {}, a list of {}",
+            arrival.reduced_size, arrival.length
+        );
         same(call, &answer, &expected)?;
-        check_memory(&memory, &expected_memory)?;
+        check_memory(memory, &expected_memory)?;
+        self.check_alike(&both)?;
         if answer.number != 0 && taken.table != sides.table {
             return Err(String::from("the table after a refusal is not as before"));
         }
         sides.table = taken.table;
         if answer.number == 0 {
             let numbers = &memory[list][..answer.count as usize];
-            self.tally.count_items(&arrival.datagram, numbers);
+            self.tally.count_items(arrival, numbers);
         }
         Ok(answer)
+    }
+
+    /// The archive with both values of the flag, table and list included, without
+    /// the independent intake.
+    fn check_alike(&mut self, [not_agreed, agreed]: &[Taken; 2]) -> Verdict {
+        let number = |(taken, _): &Taken| taken.number;
+        match compare_values(from_ref(not_agreed), from_ref(agreed), number)? {
+            Values::Alike => self.tally.alike += 1,
+            Values::FourAlone => self.tally.beside_four += 1,
+        }
+        Ok(())
     }
 
     /// The same member at each place, or none.
@@ -195,6 +225,22 @@ impl IntakeComparison {
         }
         Ok(())
     }
+}
+
+/// What the archive answers, and the list with what stands around it.
+type Taken = (DatagramAnswered, Vec<u64>);
+
+/// An arrival with either value of the flag; the table stays as it is.
+fn take(table: &Table, lent: &Lent, reduced_size: bool, arrival: &Arrival) -> Taken {
+    let mut memory = vec![BEFORE; GUARD + arrival.length + GUARD];
+    let taken = table.take_datagram(
+        lent.datagram(),
+        reduced_size,
+        &arrival.origin,
+        &arrival.reading,
+        &mut memory[GUARD..GUARD + arrival.length],
+    );
+    (taken, memory)
 }
 
 /// A single call between the datagrams.

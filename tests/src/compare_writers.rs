@@ -19,6 +19,13 @@ const ARENA: usize = GUARD + 8 + LONGEST_BUFFER + GUARD;
 /// The group that no message may have.
 const RESERVED_GROUP: u32 = u32::MAX;
 
+/// Of a first packet that is neither 200 nor 201, where reduced size was not
+/// agreed.
+const BAD_FIRST: Refusal = Refusal {
+    number: 4,
+    place: 0,
+};
+
 type Row = [u64; ROW];
 
 /// How often each thing was met with one of the writers.
@@ -27,10 +34,18 @@ pub struct Tally {
     pub accepted: u64,
     pub short_buffer: u64,
     pub out_of_range: u64,
-    /// Accepted messages that both readers read again.
-    pub read_back: u64,
-    /// Items of a datagram that were written again.
-    pub written_back: u64,
+    /// Accepted messages that both readers read again behind an RR, by the
+    /// value of the flag for reduced size.
+    pub read_back: [u64; 2],
+    /// Those that they read alone where it was agreed, and refused with 4 where
+    /// it was not.
+    pub read_alone: u64,
+    pub refused_alone: u64,
+    /// Items of a datagram that were written again, by the value of the flag
+    /// that they were read with.
+    pub written_back: [u64; 2],
+    /// Those of a datagram that only one value lets through.
+    pub written_from_reduced: u64,
     /// Items of a datagram that were refused for their group.
     pub not_written_back: u64,
 }
@@ -106,49 +121,59 @@ impl WriterComparison {
         Ok(expected)
     }
 
-    /// Behind an 8-byte RR with count 0, the message is the only item for both
-    /// readers, with the fields that were written.
+    /// The message is the only item for both readers, with the fields that were
+    /// written: behind an 8-byte RR with count 0 with either value of the flag,
+    /// and alone where reduced size was agreed. Where it was not, 4.
     fn check_read_back(&mut self, message: &Message, bytes: &[u8]) -> Verdict {
         let mut datagram = vec![0x80, 201, 0, 1];
         datagram.extend(self.rng.word().to_be_bytes());
         datagram.extend(bytes);
-        let expected = Ok(vec![row_behind_rr(message)]);
-        let decoded = decode(&datagram).map(|items| rows_of(&items));
-        let sides = [("archive", archive_rows(&datagram)), ("decoder", decoded)];
-        for (side, rows) in sides {
-            if rows != expected {
-                return Err(format!("read back: {side} {rows:?}, expected {expected:?}"));
-            }
+        let behind_rr = Ok(vec![row_at(message, 8)]);
+        for (flag, reduced_size) in [false, true].into_iter().enumerate() {
+            check_read(&datagram, reduced_size, &behind_rr)?;
+            self.tally(message).read_back[flag] += 1;
         }
-        self.tally(message).read_back += 1;
+        check_read(bytes, true, &Ok(vec![row_at(message, 0)]))?;
+        self.tally(message).read_alone += 1;
+        check_read(bytes, false, &Err(BAD_FIRST))?;
+        self.tally(message).refused_alone += 1;
         Ok(())
     }
 
     /// Writes every report and every settings item of a valid compound again,
-    /// from what the archive read.
+    /// from what the archive read with each value of the flag that lets it.
     pub fn check_compound(&mut self, compound: &Compound) -> Verdict {
-        let rows = archive_rows(&compound.bytes);
-        same(
-            format_args!("the items"),
-            &rows,
-            &Ok(rows_of(&compound.items)),
-        )?;
-        for row in rows.unwrap_or_default() {
-            if let Some(message) = message_of(&row) {
-                self.check_written_back(&message, &compound.bytes[row[1] as usize..])?;
+        for reduced_size in [false, true] {
+            let rows = archive_rows(&compound.bytes, reduced_size);
+            let expected = match compound.needs_reduced_size() && !reduced_size {
+                true => Err(BAD_FIRST),
+                false => Ok(rows_of(&compound.items)),
+            };
+            let call = format_args!("the items, reduced size {reduced_size}");
+            same(call, &rows, &expected)?;
+            for row in rows.unwrap_or_default() {
+                let Some(message) = message_of(&row) else {
+                    continue;
+                };
+                if self.check_written_back(&message, &compound.bytes[row[1] as usize..])? {
+                    let tally = self.tally(&message);
+                    tally.written_back[usize::from(reduced_size)] += 1;
+                    tally.written_from_reduced += u64::from(compound.needs_reduced_size());
+                }
             }
         }
         Ok(())
     }
 
     /// `own` starts with the item's own bytes. Only the reserved group keeps
-    /// an item from being written.
-    fn check_written_back(&mut self, message: &Message, own: &[u8]) -> Verdict {
+    /// an item from being written. Answers whether it was written.
+    fn check_written_back(&mut self, message: &Message, own: &[u8]) -> Result<bool, String> {
         let length = self.rng.between(message.size(), LONGEST_BUFFER);
         let answer = self.check_write(message, length)?;
         if group(message) == RESERVED_GROUP {
             self.tally(message).not_written_back += 1;
-            return same(format_args!("written back"), &answer, &Err(11));
+            same(format_args!("written back"), &answer, &Err(11))?;
+            return Ok(false);
         }
         let (written, own) = match (message, &answer) {
             (Message::Report(_), Ok(bytes)) => (&bytes[8..40], plain_block(&own[..32])),
@@ -162,9 +187,29 @@ impl WriterComparison {
                 hex(&own)
             ));
         }
-        self.tally(message).written_back += 1;
-        Ok(())
+        Ok(true)
     }
+}
+
+/// Both readers answer with these rows or this refusal.
+fn check_read(
+    datagram: &[u8],
+    reduced_size: bool,
+    expected: &Result<Vec<Row>, Refusal>,
+) -> Verdict {
+    let decoded = decode(datagram, reduced_size).map(|items| rows_of(&items));
+    let sides = [
+        ("archive", archive_rows(datagram, reduced_size)),
+        ("decoder", decoded),
+    ];
+    for (side, rows) in sides {
+        if rows != *expected {
+            return Err(format!(
+                "read back, reduced size {reduced_size}: {side} {rows:?}, expected {expected:?}"
+            ));
+        }
+    }
+    Ok(())
 }
 
 fn group(message: &Message) -> u32 {
@@ -178,21 +223,22 @@ fn rows_of(items: &[PlacedItem]) -> Vec<Row> {
     items.iter().map(PlacedItem::row).collect()
 }
 
-fn archive_rows(datagram: &[u8]) -> Result<Vec<Row>, Refusal> {
+fn archive_rows(datagram: &[u8], reduced_size: bool) -> Result<Vec<Row>, Refusal> {
     let mut count = 0;
-    prunepocket_sys::count_items(datagram, &mut count)?;
+    prunepocket_sys::count_items(datagram, reduced_size, &mut count)?;
     let mut numbers = vec![0; ROW * count as usize];
-    prunepocket_sys::read_items(datagram, &mut numbers, &mut count)?;
+    prunepocket_sys::read_items(datagram, reduced_size, &mut numbers, &mut count)?;
     let rows = numbers.as_chunks().0;
     Ok(rows.to_vec())
 }
 
-/// A report's place is that of its block, which the XR header precedes.
-fn row_behind_rr(message: &Message) -> Row {
+/// The item of a message that starts at a byte. A report's place is that of its
+/// block, which the XR header precedes.
+fn row_at(message: &Message, start: u64) -> Row {
     match message {
         Message::Report(fields) => [
             1,
-            16,
+            start + 8,
             fields.sender.into(),
             fields.group.into(),
             fields.media.into(),
@@ -204,7 +250,7 @@ fn row_behind_rr(message: &Message) -> Row {
         ],
         Message::Settings(fields) => [
             2,
-            8,
+            start,
             fields.sender.into(),
             fields.group.into(),
             fields.media.into(),

@@ -1,5 +1,6 @@
 //! The independent decoder: the walk of document 01 over one datagram, with
-//! the layouts of RFC 7272, RFC 3611 and RFC 3550.
+//! the layouts of RFC 7272, RFC 3611 and RFC 3550, and with change request E2
+//! where reduced size (RFC 5506) was agreed.
 //!
 //! A `Fault` plants one error. The comparison has to find each of them, which
 //! shows that it could find such an error in the archive too.
@@ -24,10 +25,27 @@ pub enum Fault {
     LongSettings,
     /// Checks 2 to 4 of all packets before 5 to 7 of any.
     AllFramesFirst,
+    /// 4 where reduced size was agreed, too.
+    FourAtReducedSize,
+    /// 4 is never given.
+    FourNever,
+    /// Reduced size counts as agreed where it was not, and the other way.
+    FlagTurnedRound,
+    /// At reduced size, a lone packet may be padded.
+    LonePaddingAtReducedSize,
+    /// At reduced size, a first packet with others behind it may be padded.
+    FirstPaddingAtReducedSize,
+    /// At reduced size, 200 and 201 may have less than their least content.
+    ShortReportsAtReducedSize,
+    /// At reduced size, 4 for every first packet but 200, 201 and 207.
+    OnlyXrAtReducedSize,
+    /// At reduced size, a first packet that is neither 200 nor 201 is stepped
+    /// over unread.
+    FirstUnreadAtReducedSize,
 }
 
 impl Fault {
-    pub const ALL: [Fault; 8] = [
+    pub const ALL: [Fault; 16] = [
         Fault::PaddingIsContent,
         Fault::ReportIdentifiersSwapped,
         Fault::SevenBeforeSix,
@@ -36,21 +54,38 @@ impl Fault {
         Fault::FourBeforeThree,
         Fault::LongSettings,
         Fault::AllFramesFirst,
+        Fault::FourAtReducedSize,
+        Fault::FourNever,
+        Fault::FlagTurnedRound,
+        Fault::LonePaddingAtReducedSize,
+        Fault::FirstPaddingAtReducedSize,
+        Fault::ShortReportsAtReducedSize,
+        Fault::OnlyXrAtReducedSize,
+        Fault::FirstUnreadAtReducedSize,
     ];
 }
 
 /// All items of a datagram in datagram order, or the refusal of the datagram.
-pub fn decode(datagram: &[u8]) -> Result<Vec<PlacedItem>, Refusal> {
-    decode_with(datagram, None)
+/// `reduced_size` says whether reduced size was agreed.
+pub fn decode(datagram: &[u8], reduced_size: bool) -> Result<Vec<PlacedItem>, Refusal> {
+    decode_with(datagram, reduced_size, None)
 }
 
-pub fn decode_with(datagram: &[u8], fault: Option<Fault>) -> Result<Vec<PlacedItem>, Refusal> {
+pub fn decode_with(
+    datagram: &[u8],
+    reduced_size: bool,
+    fault: Option<Fault>,
+) -> Result<Vec<PlacedItem>, Refusal> {
     let length = datagram.len();
     // Refusal 1: the length is 0, not a multiple of 4, or over 2,048; place 0.
     if length == 0 || !length.is_multiple_of(4) || length > 2048 {
         return Err(Refusal::new(1, 0));
     }
-    let decoder = Decoder { datagram, fault };
+    let decoder = Decoder {
+        datagram,
+        reduced_size: reduced_size != (fault == Some(Fault::FlagTurnedRound)),
+        fault,
+    };
     if fault == Some(Fault::AllFramesFirst) {
         let mut start = 0;
         while start < length {
@@ -71,6 +106,7 @@ pub fn decode_with(datagram: &[u8], fault: Option<Fault>) -> Result<Vec<PlacedIt
 
 struct Decoder<'a> {
     datagram: &'a [u8],
+    reduced_size: bool,
     fault: Option<Fault>,
 }
 
@@ -153,8 +189,14 @@ impl Decoder<'_> {
             return Ok(0);
         }
         // P only on the last packet, and not on the first, even where that is
-        // the last.
-        if start == 0 || end != self.datagram.len() {
+        // the last; at reduced size too.
+        let last = end == self.datagram.len();
+        let allowed = match (start, last) {
+            (0, true) => self.reduced_size && self.planted(Fault::LonePaddingAtReducedSize),
+            (0, false) => self.reduced_size && self.planted(Fault::FirstPaddingAtReducedSize),
+            _ => last,
+        };
+        if !allowed {
             return refusal;
         }
         // The final byte: a non-zero multiple of 4, at most the packet's
@@ -166,9 +208,17 @@ impl Decoder<'_> {
         Ok(padding)
     }
 
-    /// Check 4: the first packet is of type 200 or 201.
+    /// Check 4: the first packet is of type 200 or 201, or of any type where
+    /// reduced size was agreed.
     fn check_first(&self, start: usize) -> Result<(), Refusal> {
-        if start == 0 && !matches!(self.datagram[1], 200 | 201) {
+        let first = self.datagram[1];
+        let any_type = match self.fault {
+            Some(Fault::FourAtReducedSize) => false,
+            Some(Fault::FourNever) => true,
+            Some(Fault::OnlyXrAtReducedSize) => self.reduced_size && first == 207,
+            _ => self.reduced_size,
+        };
+        if start == 0 && !any_type && !matches!(first, 200 | 201) {
             return Err(Refusal::new(4, 0));
         }
         Ok(())
@@ -176,6 +226,9 @@ impl Decoder<'_> {
 
     /// Checks 5 to 7 by type, and the packet's items.
     fn take(&self, packet: &Packet, items: &mut Vec<PlacedItem>) -> Result<(), Refusal> {
+        if self.left_unread(packet) {
+            return Ok(());
+        }
         match packet.packet_type {
             // Sender report: header, SSRC, five words, reception reports.
             200 => packet.at_least(28 + 24 * packet.count),
@@ -187,6 +240,17 @@ impl Decoder<'_> {
             // Other types are stepped over unread.
             _ => Ok(()),
         }
+    }
+
+    /// Whether a planted fault keeps the packet from being looked at.
+    fn left_unread(&self, packet: &Packet) -> bool {
+        let report = matches!(packet.packet_type, 200 | 201);
+        let concerned = match self.fault {
+            Some(Fault::ShortReportsAtReducedSize) => report,
+            Some(Fault::FirstUnreadAtReducedSize) => packet.start == 0 && !report,
+            _ => false,
+        };
+        self.reduced_size && concerned
     }
 
     /// A farewell for each source of a BYE; a reason behind them is surplus.

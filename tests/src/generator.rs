@@ -113,14 +113,31 @@ impl Rng {
 
 /// The next datagram of a run.
 pub fn datagram(rng: &mut Rng) -> Vec<u8> {
+    let start = start(rng);
     match rng.below(100) {
-        0..=39 => valid(rng).bytes,
-        40..=84 => mutated(rng),
+        0..=39 => valid(rng, start).bytes,
+        40..=84 => mutated(rng, start),
         _ => noise(rng),
     }
 }
 
-/// A compound that no check refuses.
+/// What a compound starts with.
+#[derive(Clone, Copy, Debug, PartialEq, Eq)]
+pub enum Start {
+    /// An SR or RR: no check refuses the compound, whether reduced size was
+    /// agreed or not.
+    Report,
+    /// A packet of any type, seldom an SR or RR: no check refuses the compound
+    /// where reduced size was agreed.
+    Any,
+}
+
+/// Either start, equally often.
+pub fn start(rng: &mut Rng) -> Start {
+    rng.pick(&[Start::Report, Start::Any])
+}
+
+/// A compound that no check refuses, as its start has it.
 #[derive(Default)]
 pub struct Compound {
     pub bytes: Vec<u8>,
@@ -131,19 +148,19 @@ pub struct Compound {
     pub items: Vec<PlacedItem>,
 }
 
-/// A compound that no check refuses, with few packets that give no item.
-pub fn crowded(rng: &mut Rng) -> Compound {
+/// A valid compound with few packets that give no item.
+pub fn crowded(rng: &mut Rng, start: Start) -> Compound {
     let limit = match rng.below(20) {
         0..=13 => rng.between(12, 80) * 4,
         14..=18 => rng.between(12, 200) * 4,
         _ => LONGEST,
     };
     let mut compound = Compound::default();
-    compound.fill_with_items(rng, limit);
+    compound.fill_with_items(rng, start, limit);
     compound
 }
 
-pub fn valid(rng: &mut Rng) -> Compound {
+pub fn valid(rng: &mut Rng, start: Start) -> Compound {
     let limit = match rng.below(20) {
         0..=10 => rng.between(2, 60) * 4,
         11..=16 => rng.between(2, 180) * 4,
@@ -152,9 +169,9 @@ pub fn valid(rng: &mut Rng) -> Compound {
     };
     let mut compound = Compound::default();
     match rng.below(50) {
-        0 => compound.fill_with_farewells(rng, limit),
-        1 => compound.fill_with_short_blocks(rng, limit),
-        _ => compound.fill(rng, limit),
+        0 => compound.fill_with_farewells(rng, start, limit),
+        1 => compound.fill_with_short_blocks(rng, start, limit),
+        _ => compound.fill(rng, start, limit),
     }
     if compound.packets.len() > 1 && rng.chance(35) {
         compound.pad_last(rng, limit);
@@ -163,9 +180,18 @@ pub fn valid(rng: &mut Rng) -> Compound {
 }
 
 impl Compound {
-    fn fill(&mut self, rng: &mut Rng, limit: usize) {
-        self.report_packet(rng, limit);
-        let packets = rng.pick(&[0, 1, 1, 2, 3, 4, 6, 100]);
+    /// Without an SR or RR in front, often a lone packet.
+    fn fill(&mut self, rng: &mut Rng, start: Start, limit: usize) {
+        let packets = match start {
+            Start::Report => {
+                self.report_packet(rng, limit);
+                rng.pick(&[0, 1, 1, 2, 3, 4, 6, 100])
+            }
+            Start::Any => {
+                self.first_packet(rng, limit);
+                rng.pick(&[0, 0, 0, 0, 1, 1, 2, 3, 4, 100])
+            }
+        };
         for _ in 0..packets {
             let room = limit - self.bytes.len();
             if room < 4 {
@@ -179,9 +205,31 @@ impl Compound {
         }
     }
 
+    /// An SR or RR of 8 bytes where the start asks for one.
+    fn start_with(&mut self, rng: &mut Rng, start: Start) {
+        if start == Start::Report {
+            self.report_packet(rng, 8);
+        }
+    }
+
+    /// A packet of at most `room` bytes, which are at least 8, each type of
+    /// which is met often.
+    fn first_packet(&mut self, rng: &mut Rng, room: usize) {
+        match rng.below(10) {
+            0..=2 => self.xr_packet(rng, room),
+            3 | 4 => self.some_farewell_packet(rng, room),
+            5 | 6 if room >= 36 => self.settings_packet(rng),
+            7 => self.report_packet(rng, room),
+            _ => {
+                let longest = rng.between(1, (room / 4).min(20)) * 4;
+                self.other_packet(rng, longest, room);
+            }
+        }
+    }
+
     /// As many farewells as the limit holds.
-    fn fill_with_farewells(&mut self, rng: &mut Rng, limit: usize) {
-        self.report_packet(rng, 8);
+    fn fill_with_farewells(&mut self, rng: &mut Rng, start: Start, limit: usize) {
+        self.start_with(rng, start);
         while limit - self.bytes.len() >= 8 {
             let sources = ((limit - self.bytes.len()) / 4 - 1).min(31);
             self.farewell_packet(rng, sources, 0);
@@ -190,8 +238,8 @@ impl Compound {
 
     /// Reports, each in a packet of its own, with farewells and settings among
     /// them.
-    fn fill_with_items(&mut self, rng: &mut Rng, limit: usize) {
-        self.report_packet(rng, 8);
+    fn fill_with_items(&mut self, rng: &mut Rng, start: Start, limit: usize) {
+        self.start_with(rng, start);
         while limit - self.bytes.len() >= 40 {
             match rng.below(10) {
                 0..=6 => self.block_packet(rng),
@@ -205,8 +253,8 @@ impl Compound {
     }
 
     /// One XR packet of blocks without a word after their first.
-    fn fill_with_short_blocks(&mut self, rng: &mut Rng, limit: usize) {
-        self.report_packet(rng, 8);
+    fn fill_with_short_blocks(&mut self, rng: &mut Rng, start: Start, limit: usize) {
+        self.start_with(rng, start);
         if limit - self.bytes.len() >= 8 {
             let start = self.open(rng.below(32), 207);
             self.put(rng.field());
@@ -241,6 +289,11 @@ impl Compound {
         let words = (self.bytes.len() - start) / 4;
         let length = (words - 1) as u16;
         self.bytes[start + 2..start + 4].copy_from_slice(&length.to_be_bytes());
+    }
+
+    /// Whether 4 is due where reduced size was not agreed.
+    pub fn needs_reduced_size(&self) -> bool {
+        !matches!(self.bytes[1], 200 | 201)
     }
 
     /// Sets P on the last packet and adds padding to it.
@@ -506,8 +559,8 @@ fn settings_fields(settings: &Settings) -> Vec<u8> {
 }
 
 /// A valid compound with one to three changes.
-fn mutated(rng: &mut Rng) -> Vec<u8> {
-    let mut compound = valid(rng);
+fn mutated(rng: &mut Rng, start: Start) -> Vec<u8> {
+    let mut compound = valid(rng, start);
     spoil(rng, &mut compound);
     compound.bytes
 }
@@ -529,7 +582,7 @@ fn mutate(rng: &mut Rng, compound: &mut Compound) {
         false => rng.pick(&compound.blocks),
     };
     let bytes = &mut compound.bytes;
-    match rng.below(22) {
+    match rng.below(24) {
         0 => change_bits(rng, bytes),
         1 => change_bytes(rng, bytes),
         2 => bytes.truncate(rng.below(bytes.len() + 1)),
@@ -553,6 +606,8 @@ fn mutate(rng: &mut Rng, compound: &mut Compound) {
         }
         17 => drop_first_packet(compound),
         18..=20 => set(bytes, block, |_| 12),
+        21 => pad_first(rng, compound),
+        22 => shorten_first(compound),
         _ => shift_words(rng, bytes),
     }
 }
@@ -633,6 +688,35 @@ fn spoil_padding(rng: &mut Rng, compound: &mut Compound) {
     if let Some(end) = bytes.last_mut() {
         *end = count;
     }
+}
+
+/// Sets P on the first packet and adds padding to it that would be good on a
+/// last packet which is not the first.
+fn pad_first(rng: &mut Rng, compound: &mut Compound) {
+    let end = *compound.packets.get(1).unwrap_or(&compound.bytes.len());
+    let bytes = &mut compound.bytes;
+    if end > bytes.len() || end < 4 {
+        return;
+    }
+    let words = rng.between(1, 3);
+    let mut padding = rng.bytes(4 * words);
+    padding[4 * words - 1] = 4 * words as u8;
+    bytes.splice(end..end, padding);
+    let length = (end / 4 + words - 1) as u16;
+    bytes[0] |= 0x20;
+    bytes[2..4].copy_from_slice(&length.to_be_bytes());
+}
+
+/// Takes the last word off the first packet's content; its count stays.
+fn shorten_first(compound: &mut Compound) {
+    let end = *compound.packets.get(1).unwrap_or(&compound.bytes.len());
+    let bytes = &mut compound.bytes;
+    if end > bytes.len() || end < 8 {
+        return;
+    }
+    bytes.drain(end - 4..end);
+    let length = (end / 4 - 2) as u16;
+    bytes[2..4].copy_from_slice(&length.to_be_bytes());
 }
 
 fn drop_first_packet(compound: &mut Compound) {
@@ -721,7 +805,8 @@ fn plausible_word(rng: &mut Rng) -> u32 {
     }
 }
 
-/// An RR and one XR packet to the end, whose blocks are any plausible words.
+/// An XR packet to the end, alone or behind an RR, whose blocks are any
+/// plausible words.
 fn plausible_xr(rng: &mut Rng) -> Vec<u8> {
     let longest = rng.pick(&[8, 30, 500]);
     let words = rng.below(longest);
@@ -737,7 +822,10 @@ fn plausible_xr(rng: &mut Rng) -> Vec<u8> {
     }
     let length = (packet.len() / 4 - 1) as u16;
     packet[2..4].copy_from_slice(&length.to_be_bytes());
-    headed(packet)
+    match rng.chance(50) {
+        true => headed(packet),
+        false => packet,
+    }
 }
 
 /// A report that may be out of range by any of its fields, more often by one
@@ -795,25 +883,37 @@ pub fn buffer_length(rng: &mut Rng, message: &Message) -> usize {
 mod tests {
     use super::*;
     use crate::decoder::decode;
+    use crate::items::Refusal;
 
     /// The generator knows what it wrote, so it can judge the decoder too.
+    fn assert_decoded(compound: Compound, start: Start) {
+        assert!(compound.bytes.len() <= LONGEST);
+        let not_agreed = match compound.needs_reduced_size() {
+            true => Err(Refusal::new(4, 0)),
+            false => Ok(compound.items.clone()),
+        };
+        assert!(start == Start::Any || not_agreed.is_ok());
+        assert_eq!(decode(&compound.bytes, false), not_agreed);
+        assert_eq!(decode(&compound.bytes, true), Ok(compound.items));
+    }
+
     #[test]
     fn valid_compounds_decode_to_the_items_written() {
         let mut rng = Rng::new(seed());
-        for _ in 0..50_000 {
-            let compound = valid(&mut rng);
-            assert!(compound.bytes.len() <= LONGEST);
-            assert_eq!(decode(&compound.bytes), Ok(compound.items));
+        for _ in 0..25_000 {
+            for start in [Start::Report, Start::Any] {
+                assert_decoded(valid(&mut rng, start), start);
+            }
         }
     }
 
     #[test]
     fn crowded_compounds_decode_to_the_items_written() {
         let mut rng = Rng::new(seed());
-        for _ in 0..10_000 {
-            let compound = crowded(&mut rng);
-            assert!(compound.bytes.len() <= LONGEST);
-            assert_eq!(decode(&compound.bytes), Ok(compound.items));
+        for _ in 0..5_000 {
+            for start in [Start::Report, Start::Any] {
+                assert_decoded(crowded(&mut rng, start), start);
+            }
         }
     }
 }

@@ -46,10 +46,16 @@ pub enum Fault {
     RestCleared,
     /// A new member takes the highest free place.
     HighestPlace,
+    /// The decoder is told that reduced size was not agreed, whatever was.
+    FlagNotPassedOn,
+    /// The decoder is told that reduced size was agreed, whatever was.
+    FlagTakenAsSet,
+    /// The decoder is told what was said with the first datagram.
+    FlagKept,
 }
 
 impl Fault {
-    pub const ALL: [Fault; 15] = [
+    pub const ALL: [Fault; 18] = [
         Fault::SettingsCounted,
         Fault::SettingsFiled,
         Fault::FarewellsFirst,
@@ -65,6 +71,9 @@ impl Fault {
         Fault::PlaceZero,
         Fault::RestCleared,
         Fault::HighestPlace,
+        Fault::FlagNotPassedOn,
+        Fault::FlagTakenAsSet,
+        Fault::FlagKept,
     ];
 }
 
@@ -101,6 +110,8 @@ pub struct Intake {
     register: Register,
     places: [Option<u32>; PLACES],
     fault: Option<Fault>,
+    /// The flag of the first datagram, for the fault that keeps it.
+    first_flag: Option<bool>,
 }
 
 impl Intake {
@@ -111,6 +122,7 @@ impl Intake {
             register,
             places: [None; PLACES],
             fault,
+            first_flag: None,
         })
     }
 
@@ -164,9 +176,20 @@ impl Intake {
 
     /// Takes a whole datagram, with this list for the calls' numbers.
     pub fn take(&mut self, arrival: &Arrival, list: &mut [u64]) -> Answer {
-        match decode(&arrival.datagram) {
+        match decode(&arrival.datagram, self.flag(arrival.reduced_size)) {
             Ok(items) => self.take_items(arrival, &items, list),
             Err(refusal) => self.refuse(arrival, refusal, list.len()),
+        }
+    }
+
+    /// What the decoder is told of reduced size.
+    fn flag(&mut self, reduced_size: bool) -> bool {
+        let first = *self.first_flag.get_or_insert(reduced_size);
+        match self.fault {
+            Some(Fault::FlagNotPassedOn) => false,
+            Some(Fault::FlagTakenAsSet) => true,
+            Some(Fault::FlagKept) => first,
+            _ => reduced_size,
         }
     }
 
@@ -174,13 +197,13 @@ impl Intake {
     fn refuse(&mut self, arrival: &Arrival, refusal: Refusal, length: usize) -> Answer {
         match self.fault {
             Some(Fault::RefusedTaken) => {
-                let items = first_items(&arrival.datagram);
+                let items = first_items(arrival);
                 for call in self.calls(arrival, &items).into_iter().flatten() {
                     self.call(&call);
                 }
             }
             Some(Fault::TenFirst) => {
-                let items = first_items(&arrival.datagram);
+                let items = first_items(arrival);
                 if self.calls(arrival, &items).len() > length {
                     return Answer::refused(Refusal::new(10, 0));
                 }
@@ -297,10 +320,10 @@ impl Intake {
 }
 
 /// The items of a refused datagram's longest front that is not refused.
-fn first_items(datagram: &[u8]) -> Vec<PlacedItem> {
-    let fronts = (0..datagram.len()).rev();
+fn first_items(arrival: &Arrival) -> Vec<PlacedItem> {
+    let fronts = (0..arrival.datagram.len()).rev();
     fronts
-        .filter_map(|end| decode(&datagram[..end]).ok())
+        .filter_map(|end| decode(&arrival.datagram[..end], arrival.reduced_size).ok())
         .next()
         .unwrap_or_default()
 }

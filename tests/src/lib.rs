@@ -12,6 +12,7 @@ pub mod compare_table;
 pub mod compare_writers;
 pub mod decoder;
 pub mod encoder;
+pub mod first_packets;
 pub mod generator;
 pub mod histories;
 pub mod intake;

@@ -52,6 +52,8 @@ struct Bench<S> {
     /// The group and media source of the reports.
     stream: (u32, u32),
     datagram: Vec<u8>,
+    /// Whether reduced size was agreed with those who send the datagrams.
+    reduced_size: bool,
     last_report: Option<Record>,
     target: Option<Target>,
 }
@@ -66,6 +68,7 @@ impl<S: Side> Bench<S> {
             reading: READING,
             stream: (OPENING.group, OPENING.media),
             datagram: Vec::new(),
+            reduced_size: false,
             last_report: None,
             target: None,
         })
@@ -83,31 +86,36 @@ impl<S: Side> Bench<S> {
         let asked: Vec<&str> = asked.split(' ').collect();
         let due: Vec<&str> = due.split_whitespace().collect();
         match (&asked[..], &due[..]) {
-            (["table"], []) => {
-                self.reading = READING;
-                is(self.open(OPENING), 0)
-            }
-            (["reading", ntp, rtp], []) => {
-                let (ntp, rtp) = (time(ntp)?, number(rtp)?);
-                self.reading = Reading { ntp, rtp };
-                Ok(())
-            }
-            (["stream", group, media], []) => {
-                self.stream = (number(group)?, number(media)?);
-                Ok(())
-            }
-            (["datagram", words @ ..], []) => {
-                self.datagram = bytes(words)?;
-                Ok(())
-            }
             (["take", origin], due) => {
                 let origin = parse_origin(origin)?;
                 let answer = self.take(&self.datagram.clone(), &origin);
                 is(answer, numbers(due)?)
             }
+            (asked, []) if is_setting(asked[0]) => self.set(asked),
             (asked, [due]) if is_call(asked[0]) => is(self.call(asked)?, number(due)?),
             (asked, due) => self.look(asked, due),
         }
+    }
+
+    /// What the steps behind it are told.
+    fn set(&mut self, asked: &[&str]) -> Verdict {
+        match asked {
+            ["table"] => {
+                self.reading = READING;
+                self.reduced_size = false;
+                return is(self.open(OPENING), 0);
+            }
+            ["reading", ntp, rtp] => {
+                let (ntp, rtp) = (time(ntp)?, number(rtp)?);
+                self.reading = Reading { ntp, rtp };
+            }
+            ["reduced", "size", "agreed"] => self.reduced_size = true,
+            ["reduced", "size", "not", "agreed"] => self.reduced_size = false,
+            ["stream", group, media] => self.stream = (number(group)?, number(media)?),
+            ["datagram", words @ ..] => self.datagram = bytes(words)?,
+            _ => return Err(String::from("not a step")),
+        }
+        Ok(())
     }
 
     /// The number of a call.
@@ -144,8 +152,11 @@ impl<S: Side> Bench<S> {
     /// The answer to a question, which changes nothing.
     fn look(&mut self, asked: &[&str], due: &[&str]) -> Verdict {
         match (asked, due) {
-            (["items"], due) => is(S::count_items(&self.datagram), count(due)?),
-            (["item", index], due) => is(S::item_at(&self.datagram, number(index)?), item(due)?),
+            (["items"], due) => {
+                let items = S::count_items(&self.datagram, self.reduced_size);
+                is(items, count(due)?)
+            }
+            (["item", index], due) => is(self.item_at(number(index)?), item(due)?),
             (["choose"], due) => is(self.choose()?, self.choice(due)?),
             (["lateness"], [due]) => {
                 let lateness = self.at_reading(&[]).lateness(&self.target()?);
@@ -178,6 +189,10 @@ impl<S: Side> Bench<S> {
         }
     }
 
+    fn item_at(&self, index: u64) -> Result<(u64, u64), Refusal> {
+        S::item_at(&self.datagram, self.reduced_size, index)
+    }
+
     /// A refused opening leaves the table before.
     fn open(&mut self, opening: Opening) -> u64 {
         match S::open(&opening) {
@@ -199,7 +214,8 @@ impl<S: Side> Bench<S> {
 
     fn take(&mut self, datagram: &[u8], origin: &Origin) -> Result<Vec<u64>, Refusal> {
         self.before = self.side.clone();
-        self.side.take(datagram, origin, &self.reading)
+        let reading = &self.reading;
+        self.side.take(datagram, self.reduced_size, origin, reading)
     }
 
     /// A message behind an RR of its sender is a datagram with one call.
@@ -315,6 +331,10 @@ fn read_line<S: Side>(step: &str) -> Verdict {
 fn write_line<S: Side>(step: &str) -> Verdict {
     let (group, due) = step.split_once(" = ").ok_or("no answer")?;
     is(S::write_line(number(group)?), line(due)?)
+}
+
+fn is_setting(word: &str) -> bool {
+    ["table", "reading", "reduced", "stream", "datagram"].contains(&word)
 }
 
 fn is_call(word: &str) -> bool {
@@ -522,6 +542,21 @@ mod tests {
     }
 
     #[test]
+    fn steps_are_told_whether_reduced_size_was_agreed() {
+        let bye = "  datagram 81CB0001 0000000A\n";
+        let walked = "  items = 1\n  item 0 = farewell 10\n  take 192.0.2.1:5010 = 19\n";
+        let four =
+            "  items = refused 4 0\n  item 0 = refused 4 0\n  take 192.0.2.1:5010 = refused 4 0\n";
+        let start = format!("{bye}{four}  reduced size agreed\n{walked}");
+        for step in ["  reduced size not agreed\n", "  table\n"] {
+            assert_eq!(run::<Intake>(&format!("{start}{step}{four}")), Ok(12));
+        }
+        for step in ["", "  open 42 7 90000 = 0\n", "  reading 1 0\n"] {
+            assert!(fails(&format!("{start}{step}{four}")), "{step}");
+        }
+    }
+
+    #[test]
     fn texts_stand_for_their_bytes() {
         let text = r#""a=rtcp-idms:sync-group=42\r\n""#;
         let read = format!("  line {text} = 42\n  line {text} = 0x2A\n");
@@ -537,6 +572,10 @@ mod tests {
             "  sweep",
             "  members 1",
             "  table = 0",
+            "  reduced size",
+            "  reduced size agreed = 0",
+            "  reduced size not",
+            "  reduced size not agreed = 0",
             " table",
             "\ttable",
             "  line",

@@ -22,15 +22,16 @@ pub trait Side: Clone {
     fn take(
         &mut self,
         datagram: &[u8],
+        reduced_size: bool,
         origin: &Origin,
         reading: &Reading,
     ) -> Result<Vec<u64>, Refusal>;
     fn choose(&self, reading: &Reading) -> Choice;
     fn count_members(&self) -> u64;
     fn member_at(&self, place: usize) -> Option<Record>;
-    fn count_items(datagram: &[u8]) -> Result<u64, Refusal>;
+    fn count_items(datagram: &[u8], reduced_size: bool) -> Result<u64, Refusal>;
     /// The kind and the source of the item at an index.
-    fn item_at(datagram: &[u8], index: u64) -> Result<(u64, u64), Refusal>;
+    fn item_at(datagram: &[u8], reduced_size: bool, index: u64) -> Result<(u64, u64), Refusal>;
     fn write(message: &Message) -> Result<Vec<u8>, u64>;
     /// The group number of a site file's line.
     fn read_line(line: &[u8]) -> Result<u32, Refusal>;
@@ -64,11 +65,12 @@ impl Side for Table {
     fn take(
         &mut self,
         datagram: &[u8],
+        reduced_size: bool,
         origin: &Origin,
         reading: &Reading,
     ) -> Result<Vec<u64>, Refusal> {
         let mut numbers = vec![0; MOST_CALLS];
-        let taken = self.take_datagram(datagram, origin, reading, &mut numbers);
+        let taken = self.take_datagram(datagram, reduced_size, origin, reading, &mut numbers);
         *self = taken.table;
         let answer = Answer {
             number: taken.number,
@@ -91,15 +93,15 @@ impl Side for Table {
         (shown.held == 1).then_some(shown.member)
     }
 
-    fn count_items(datagram: &[u8]) -> Result<u64, Refusal> {
+    fn count_items(datagram: &[u8], reduced_size: bool) -> Result<u64, Refusal> {
         let mut count = 0;
-        count_items(datagram, &mut count).map(|()| count)
+        count_items(datagram, reduced_size, &mut count).map(|()| count)
     }
 
-    fn item_at(datagram: &[u8], index: u64) -> Result<(u64, u64), Refusal> {
+    fn item_at(datagram: &[u8], reduced_size: bool, index: u64) -> Result<(u64, u64), Refusal> {
         let (mut kind, mut source) = (0, 0);
-        item_field(datagram, index, 0, &mut kind)?;
-        item_field(datagram, index, 2, &mut source)?;
+        item_field(datagram, reduced_size, index, 0, &mut kind)?;
+        item_field(datagram, reduced_size, index, 2, &mut source)?;
         Ok((kind, source))
     }
 
@@ -135,11 +137,13 @@ impl Side for Intake {
     fn take(
         &mut self,
         datagram: &[u8],
+        reduced_size: bool,
         origin: &Origin,
         reading: &Reading,
     ) -> Result<Vec<u64>, Refusal> {
         let arrival = Arrival {
             datagram: datagram.to_vec(),
+            reduced_size,
             origin: *origin,
             reading: *reading,
             length: MOST_CALLS,
@@ -161,12 +165,12 @@ impl Side for Intake {
         self.members().get(place).copied().flatten()
     }
 
-    fn count_items(datagram: &[u8]) -> Result<u64, Refusal> {
-        decode(datagram).map(|items| items.len() as u64)
+    fn count_items(datagram: &[u8], reduced_size: bool) -> Result<u64, Refusal> {
+        decode(datagram, reduced_size).map(|items| items.len() as u64)
     }
 
-    fn item_at(datagram: &[u8], index: u64) -> Result<(u64, u64), Refusal> {
-        let items = decode(datagram)?;
+    fn item_at(datagram: &[u8], reduced_size: bool, index: u64) -> Result<(u64, u64), Refusal> {
+        let items = decode(datagram, reduced_size)?;
         // Refusal 9: the index is not below the item count; place 0.
         let item = items.get(index as usize).ok_or(Refusal::new(9, 0))?;
         let row = item.row();

@@ -1,14 +1,18 @@
-//! Compares archive and decoder over a million generated datagrams and prints
-//! what they met.
+//! Compares archive and decoder over a million generated datagrams, each with
+//! both values of the flag for reduced size, and prints what they met.
 
 use prunepocket_tests::compare::{hex, Comparison, Tally};
+use prunepocket_tests::first_packets::FLAGS;
 use prunepocket_tests::generator::{self, Rng};
-use prunepocket_tests::tallies::{lines, print_lines, settle, Line};
+use prunepocket_tests::tallies::{answer_name, lines, print_answers, print_lines, settle, Line};
 use std::process::exit;
 use std::time::Instant;
 
-/// The refusals that a reader can give; each has to be met.
-const NUMBERS: [usize; 9] = [1, 2, 3, 4, 5, 6, 7, 9, 10];
+/// The answers that a reader can give: 0 is no refusal.
+const NUMBERS: [usize; 10] = [0, 1, 2, 3, 4, 5, 6, 7, 9, 10];
+
+/// The answers where reduced size was agreed to what is otherwise refused with 4.
+const BESIDE_FOUR: [usize; 6] = [0, 2, 3, 5, 6, 7];
 
 fn main() {
     let seed = generator::seed();
@@ -23,7 +27,7 @@ fn main() {
         }
     }
     print_table(seed, &comparison.tally);
-    settle(start, refusals(&comparison.tally), 1);
+    settle(start, met(&comparison.tally), 1);
 }
 
 fn report_mismatch(seed: u64, run: u64, datagram: &[u8], difference: &str) {
@@ -34,23 +38,50 @@ fn report_mismatch(seed: u64, run: u64, datagram: &[u8], difference: &str) {
 fn print_table(seed: u64, tally: &Tally) {
     println!();
     println!("archive and decoder, seed {seed:#x}");
-    print_lines(&lines([
-        ("datagrams", tally.datagrams),
-        ("accepted", tally.accepted),
-    ]));
-    print_lines(&refusals(tally));
-    print_lines(&lines([
-        ("reports", tally.kinds[1]),
-        ("settings", tally.kinds[2]),
-        ("farewells", tally.kinds[3]),
-    ]));
+    println!("{} datagrams, each with both values", tally.datagrams);
+    println!("answers 0 to 7 are of datagrams, 9 and 10 of calls");
+    print_answers("in all", &FLAGS, &NUMBERS, &tally.answers);
+    print_lines(&kinds(tally));
+    print_lines(&of_both_values(tally));
+    tally.firsts.print();
 }
 
-fn refusals(tally: &Tally) -> Vec<Line> {
-    let line = |number: usize| {
-        let unit = if number < 9 { "datagrams" } else { "calls" };
-        let name = format!("refused {number} ({unit})");
-        (name, tally.refusals[number])
+/// All of these have to be met.
+fn met(tally: &Tally) -> Vec<Line> {
+    let parts = [answers(tally), kinds(tally), of_both_values(tally)];
+    let firsts = tally.firsts.all_lines();
+    parts.into_iter().flatten().chain(firsts).collect()
+}
+
+/// Every answer with each value of the flag, but for 4 where it was agreed.
+fn answers(tally: &Tally) -> Vec<Line> {
+    let mut lines = Vec::new();
+    for (flag, answers) in FLAGS.iter().zip(&tally.answers) {
+        for number in NUMBERS {
+            if (*flag, number) != (FLAGS[1], 4) {
+                let name = format!("{}, {flag}", answer_name(number));
+                lines.push((name, answers[number]));
+            }
+        }
+    }
+    lines
+}
+
+fn kinds(tally: &Tally) -> Vec<Line> {
+    let of_flag = |flag: usize| {
+        let names = ["reports", "settings", "farewells"];
+        let kinds = names.into_iter().zip(&tally.kinds[flag][1..]);
+        kinds.map(move |(name, times)| (format!("{name}, {}", FLAGS[flag]), *times))
     };
-    NUMBERS.map(line).into()
+    of_flag(0).chain(of_flag(1)).collect()
+}
+
+/// What the two values of the flag made of one datagram.
+fn of_both_values(tally: &Tally) -> Vec<Line> {
+    let beside_four = BESIDE_FOUR.map(|number| {
+        let name = format!("4 with flag 0, {} with 1", answer_name(number));
+        (name, tally.beside_four[number])
+    });
+    let alike = lines([("alike with both values", tally.alike)]);
+    alike.into_iter().chain(beside_four).collect()
 }

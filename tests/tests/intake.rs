@@ -1,9 +1,11 @@
 //! Compares the archive's intake of whole datagrams with the independent one
-//! over 200,000 datagrams, and prints what was met.
+//! over 200,000 datagrams, each with a value of the flag for reduced size, and
+//! prints what was met.
 
 use prunepocket_tests::arrivals::{self, Course, Event};
 use prunepocket_tests::compare::hex;
 use prunepocket_tests::compare_intake::{smallest, IntakeComparison, Tally, KINDS};
+use prunepocket_tests::first_packets::FLAGS;
 use prunepocket_tests::generator::{self, Rng};
 use prunepocket_tests::tallies::{answer_name, lines, print_answers, print_lines, settle, Line};
 use std::process::exit;
@@ -38,6 +40,7 @@ fn main() {
     print_table(seed, &comparison.tally);
     let tally = &comparison.tally;
     let met = of_datagrams(tally).into_iter().chain(of_kinds(tally));
+    let met = met.chain(tally.firsts.type_lines());
     settle(start, met.chain(others(tally)), datagrams / SHARE);
 }
 
@@ -54,6 +57,7 @@ fn report_mismatch(seed: u64, run: u64, course: &Course, difference: &str) {
             Event::Arrival(arrival) => {
                 println!("{:?} {:?}", arrival.origin, arrival.reading);
                 println!("list of {}, then {:?}", arrival.length, arrival.choice);
+                println!("reduced size {}", arrival.reduced_size);
                 println!("datagram {}", hex(&arrival.datagram));
             }
         }
@@ -64,22 +68,28 @@ fn print_table(seed: u64, tally: &Tally) {
     println!();
     println!("archive and intake, seed {seed:#x}");
     println!("{} datagrams in {} courses", tally.taken(), tally.courses);
-    print_lines(&of_datagrams(tally));
+    print_answers("datagrams", &FLAGS, &DATAGRAM_NUMBERS, &tally.datagrams);
+    tally.firsts.print();
     print_answers("calls", &KINDS, &CALL_NUMBERS, &tally.calls);
     print_lines(&others(tally));
 }
 
-/// The answers that a datagram can get.
+/// The answers that a datagram can get with each value of the flag: 4 with one.
 fn of_datagrams(tally: &Tally) -> Vec<Line> {
-    let line = |number: usize| {
-        let name = format!("datagram {}", answer_name(number));
-        (name, tally.datagrams[number])
+    let line = |flag: usize, number: usize| {
+        let name = format!("datagram {}, {}", answer_name(number), FLAGS[flag]);
+        (name, tally.datagrams[flag][number])
     };
-    DATAGRAM_NUMBERS.map(line).into()
+    let not_agreed = DATAGRAM_NUMBERS.map(|number| line(0, number));
+    let agreed = DATAGRAM_NUMBERS.into_iter().filter(|&number| number != 4);
+    let agreed = agreed.map(|number| line(1, number));
+    not_agreed.into_iter().chain(agreed).collect()
 }
 
 fn others(tally: &Tally) -> Vec<Line> {
     lines([
+        ("alike with both values", tally.alike),
+        ("refused 4 with one value", tally.beside_four),
         ("settings passed by", tally.settings),
         ("datagrams with accepted calls", tally.changing),
         ("datagrams of several answers", tally.mixed),

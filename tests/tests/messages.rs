@@ -59,23 +59,50 @@ fn assert_refused(message: Message, length: usize, number: u64) {
     assert_eq!(written(message, length), Err(Refusal::new(number, 0)));
 }
 
-/// Both sides write the message, which is then the only item behind an RR.
+/// Both sides write the message, which is then the only item: behind an RR with
+/// either value of the flag for reduced size, and alone where it was agreed.
 fn read_back(message: Message) -> Item {
     let size = message.size();
     let bytes = message.encode_with(size, None).expect("it may be written");
     let expected = (size as u64, memory_with(&bytes));
     assert_eq!(written(message, size), Ok(expected));
     let datagram = [&[0x80, 201, 0, 1, 0, 0, 0, 99], &bytes[..]].concat();
-    let items = decode(&datagram).expect("the datagram is read");
+    let item = only_item(&bytes, true);
+    for reduced_size in [false, true] {
+        assert_eq!(only_item(&datagram, reduced_size), item);
+    }
+    item
+}
+
+/// Both sides read one item, and the same.
+fn only_item(datagram: &[u8], reduced_size: bool) -> Item {
+    let items = decode(datagram, reduced_size).expect("the datagram is read");
     assert_eq!(items.len(), 1);
     let mut row = [0; ROW];
     let mut count = 0;
     assert_eq!(
-        prunepocket_sys::read_items(&datagram, &mut row, &mut count),
+        prunepocket_sys::read_items(datagram, reduced_size, &mut row, &mut count),
         Ok(())
     );
     assert_eq!((count, row), (1, items[0].row()));
     items[0].item
+}
+
+#[test]
+fn a_message_alone_is_refused_with_4_where_reduced_size_was_not_agreed() {
+    for message in [Message::Report(REPORT), Message::Settings(SETTINGS)] {
+        let bytes = message
+            .encode_with(message.size(), None)
+            .expect("it may be written");
+        let refusal = Refusal::new(4, 0);
+        assert_eq!(decode(&bytes, false), Err(refusal));
+        let (mut row, mut count) = ([u64::MAX; ROW], u64::MAX);
+        assert_eq!(
+            prunepocket_sys::read_items(&bytes, false, &mut row, &mut count),
+            Err(refusal)
+        );
+        assert_eq!((count, row), (u64::MAX, [u64::MAX; ROW]));
+    }
 }
 
 #[test]

@@ -56,7 +56,8 @@ fn check_messages(
 
 fn check_compounds(comparison: &mut WriterComparison, rng: &mut Rng, runs: u64) -> Verdict {
     for run in 0..runs {
-        let compound = generator::valid(rng);
+        let start = generator::start(rng);
+        let compound = generator::valid(rng, start);
         comparison.check_compound(&compound).map_err(|difference| {
             let datagram = hex(&compound.bytes);
             format!("datagram {run}, {difference}\ndatagram {datagram}")
@@ -71,8 +72,13 @@ fn met(tally: &Tally) -> Vec<Line> {
         ("accepted", tally.accepted),
         ("refused 10", tally.short_buffer),
         ("refused 11", tally.out_of_range),
-        ("read back", tally.read_back),
-        ("items written back", tally.written_back),
+        ("read back behind RR, flag 0", tally.read_back[0]),
+        ("read back behind RR, flag 1", tally.read_back[1]),
+        ("read back alone, flag 1", tally.read_alone),
+        ("refused 4 alone, flag 0", tally.refused_alone),
+        ("items written back, flag 0", tally.written_back[0]),
+        ("items written back, flag 1", tally.written_back[1]),
+        ("of these, without SR or RR", tally.written_from_reduced),
         ("items not written back (11)", tally.not_written_back),
     ])
 }

@@ -1,12 +1,14 @@
 -- How many items there are, or the refusal.
 use Prim.Native.Nat.{ℕ, _+_}
 use mathlib.Core.List.{List}
+use mathlib.Core.Bool.{Bool}
 use lib.ListN.{length}
 use Rattle.idms.specs.declared.Refusal.{Refusal}
 use Rattle.packet.specs.Checks.{Check, passed, refused}
 use Rattle.packet.specs.Bytes.{be32}
+use Rattle.packet.specs.Contents.{contents}
 use Rattle.datagram.specs.declared.Count.{Count}
-use Rattle.datagram.specs.Datagram.{blocksCheck, blocksItems, packetCheck, packetItems}
+use Rattle.datagram.specs.Datagram.{blocksCheck, blocksItems, partsCheck, packetItems}
 use Rattle.datagram.specs.Datagram.{packetsCheck, packetsItems, datagramCheck, datagramItems}
 
 abbrev pub refusal : ℕ → ℕ → Refusal
@@ -22,14 +24,14 @@ abbrev pub blocksCount : List ℕ → ℕ → ℕ → Count
 blocksCount d p content =
     countUnless (blocksCheck d (p + content) (p + 8)) (length (blocksItems d (be32 d (p + 4)) (p + content) (p + 8)))
 
--- of the packet at p
-abbrev pub packetCount : List ℕ → ℕ → Count
-packetCount d p = countUnless (packetCheck d p) (length (packetItems d p))
+-- of the packet at p, which is readable
+abbrev pub partsCount : List ℕ → ℕ → Count
+partsCount d p = countUnless (partsCheck d (contents d p)) (length (packetItems d p))
 
 -- of the packets from p on
-abbrev pub packetsCount : List ℕ → ℕ → Count
-packetsCount d p = countUnless (packetsCheck d p) (length (packetsItems d p))
+abbrev pub packetsCount : Bool → List ℕ → ℕ → Count
+packetsCount reduced d p = countUnless (packetsCheck reduced d p) (length (packetsItems d p))
 
 -- how many items a datagram has, or its refusal
-unfoldable pub itemCount : List ℕ → Count
-itemCount d = countUnless (datagramCheck d) (length (datagramItems d))
+unfoldable pub itemCount : Bool → List ℕ → Count
+itemCount reduced d = countUnless (datagramCheck reduced d) (length (datagramItems d))

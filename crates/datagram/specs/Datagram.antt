@@ -1,5 +1,5 @@
 -- A whole datagram: what is checked, packet by packet from the front, and the items in datagram order (document 01,
--- "Walking a datagram").
+-- "Walking a datagram", and E2: check 4 of the first packet is not made where reduced size was agreed).
 use Prim.Native.Nat.{ℕ, _%_, _≤_}
 use mathlib.Core.List.{List, [], _∷_}
 use mathlib.Core.Bool.{Bool, not, _||_}
@@ -36,8 +36,8 @@ partsCheck d (Packet.Settings next) = passed
 partsCheck d Packet.Unreadable = passed
 
 -- one packet's checks: 2, 3, 4, 5, then those of its parts
-unfoldable pub packetCheck : List ℕ → ℕ → Check
-packetCheck d p = andThen (headCheck d p) (partsCheck d (contents d p))
+unfoldable pub packetCheck : Bool → List ℕ → ℕ → Check
+packetCheck reduced d p = andThen (headCheck reduced d p) (partsCheck d (contents d p))
 
 -- the items of the packet at p, by what it holds
 abbrev pub partsItems : List ℕ → ℕ → Packet → List Placed
@@ -51,8 +51,8 @@ unfoldable pub packetItems : List ℕ → ℕ → List Placed
 packetItems d p = partsItems d p (contents d p)
 
 -- the packets from p on
-abbrev pub packetsCheck : List ℕ → ℕ → Check
-packetsCheck d p = checkEach (packetCheck d) (size d) (length d) p
+abbrev pub packetsCheck : Bool → List ℕ → ℕ → Check
+packetsCheck reduced d p = checkEach (packetCheck reduced d) (size d) (length d) p
 
 abbrev pub packetsItems : List ℕ → ℕ → List Placed
 packetsItems d p = gives (packetItems d) (size d) (length d) p
@@ -62,8 +62,8 @@ abbrev pub lengthIsBad : ℕ → Bool
 lengthIsBad n = eqb n 0 || not (eqb (n % 4) 0) || ltb 2048 n
 
 -- The first check that applies answers for the whole datagram.
-unfoldable pub datagramCheck : List ℕ → Check
-datagramCheck d = refuseIf (lengthIsBad (length d)) badLength 0 (packetsCheck d 0)
+unfoldable pub datagramCheck : Bool → List ℕ → Check
+datagramCheck reduced d = refuseIf (lengthIsBad (length d)) badLength 0 (packetsCheck reduced d 0)
 
 -- the placed items of a datagram that is not refused
 unfoldable pub datagramItems : List ℕ → List Placed

@@ -9,13 +9,13 @@ use packet::block_at;
 use packet::head_at;
 use refusals::BAD_LENGTH;
 ghost use mathlib.Core.Path.{_≡_};
+ghost use mathlib.Core.Bool.{true};
 ghost use Prim.Native.Nat.{_+_, _≤_};
 ghost use lib.ListN.{length};
-ghost use Rattle.packet.specs.Checks.{passed};
-ghost use Rattle.packet.specs.Packet.{headCheck};
+ghost use Rattle.packet.specs.Contents.{readable};
 ghost use Rattle.packet.specs.Answers.{headOf};
 ghost use Rattle.datagram.specs.Datagram.{lengthIsBad};
-ghost use Rattle.datagram.specs.Answers.{blocksCount, packetCount, packetsCount, itemCount};
+ghost use Rattle.datagram.specs.Answers.{blocksCount, partsCount, packetsCount, itemCount};
 
 // How many items a datagram has, or its refusal.
 pub enum Count {
@@ -48,10 +48,10 @@ fn count_blocks(d: &[u8], p: usize, content: usize) -> Count
     Count::Items(n)
 }
 
-// Counts the items of the packet at p, whose header has passed, by its type.
+// Counts the items of the packet at p, which is readable, by its type.
 fn count_content(d: &[u8], p: usize, h: Head) -> Count
-    requires { ⌜ (h ≡ headOf (now d) p) × (headCheck (now d) p ≡ passed) ⌝ }
-    ensures { λ r. ⌜ r ≡ packetCount (now (d .entry)) p ⌝ }
+    requires { ⌜ (h ≡ headOf (now d) p) × (readable (now d) p ≡ true) ⌝ }
+    ensures { λ r. ⌜ r ≡ partsCount (now (d .entry)) p ⌝ }
 {
     let kind = h.kind;
     match kind {
@@ -65,13 +65,13 @@ fn count_content(d: &[u8], p: usize, h: Head) -> Count
 }
 
 // Checks the packets of a datagram in turn, and counts their items.
-fn count_packets(d: &[u8]) -> Count
-    ensures { λ r. ⌜ r ≡ packetsCount (now (d .entry)) 0 ⌝ }
+fn count_packets(d: &[u8], reduced: bool) -> Count
+    ensures { λ r. ⌜ r ≡ packetsCount reduced (now (d .entry)) 0 ⌝ }
 {
     let mut p: usize = 0;
     let mut n: usize = 0;
     while p < d.len() {
-        match head_at(d, p) {
+        match head_at(d, reduced, p) {
             Entry::Refused(number) => {
                 return Count::Refused(Refusal { number, place: p });
             }
@@ -102,9 +102,9 @@ fn is_bad_length(n: usize) -> bool
     2048 < n
 }
 
-// How many items a datagram has, or the refusal that it gets.
-pub fn count_items(d: &[u8]) -> Count
-    ensures { λ r. ⌜ r ≡ itemCount (now (d .entry)) ⌝ }
+// How many items a datagram has, or the refusal that it gets. `reduced` says whether reduced size was agreed.
+pub fn count_items(d: &[u8], reduced: bool) -> Count
+    ensures { λ r. ⌜ r ≡ itemCount reduced (now (d .entry)) ⌝ }
 {
     if is_bad_length(d.len()) {
         return Count::Refused(Refusal {
@@ -112,5 +112,5 @@ pub fn count_items(d: &[u8]) -> Count
             place: 0,
         });
     }
-    count_packets(d)
+    count_packets(d, reduced)
 }

@@ -2,6 +2,7 @@
 -- table that they leave.
 use Prim.Native.Nat.{ℕ, suc, zero, _+_, _-_, _≤_, _<_}
 use mathlib.Core.Path.{_≡_, refl, sym, ap, _∙_}
+use mathlib.Core.Bool.{Bool}
 use mathlib.Core.List.{List, [], _∷_, _++_}
 use lib.ListN.{length, drop, set, length-append}
 use lib.Seq.{sets, sets-eq, length-sets}
@@ -212,29 +213,32 @@ module _
 -- ---- a datagram: what opening it says of its checks and its items
 
 pub cursor-items :
-    (d : List ℕ) (n : ℕ) (c : Cursor) → cursorOn d ≡ Opened.Items n c
-    → (datagramCheck d ≡ passed) × (given n d c ≡ datagramItems d)
+    (reduced : Bool) (d : List ℕ) (n : ℕ) (c : Cursor) → cursorOn reduced d ≡ Opened.Items n c
+    → (datagramCheck reduced d ≡ passed) × (given n d c ≡ datagramItems d)
 unfolding cursorOn itemCount
-cursor-items d n c e = go (datagramCheck d) refl
+cursor-items reduced d n c e = go (datagramCheck reduced d) refl
   where
-    go : (k : Check) → datagramCheck d ≡ k → (datagramCheck d ≡ passed) × (given n d c ≡ datagramItems d)
+    go :
+        (k : Check) → datagramCheck reduced d ≡ k
+        → (datagramCheck reduced d ≡ passed) × (given n d c ≡ datagramItems d)
     go passed k =
         let o : Opened.Items (length (datagramItems d)) start ≡ Opened.Items n c = rw k at e in
         let count : length (datagramItems d) ≡ n = cc in
         let first : start ≡ c = cc in
-        let counted : itemCount d ≡ Count.Items (length (datagramItems d)) = rw k refl in
-        (k, ap (given n d) (sym first) ∙ cursor-in-turn d (length (datagramItems d)) n counted (omega arith))
+        let counted : itemCount reduced d ≡ Count.Items (length (datagramItems d)) = rw k refl in
+        (k, ap (given n d) (sym first) ∙ cursor-in-turn reduced d (length (datagramItems d)) n counted (omega arith))
     go (refused number place) k =
         let o : Opened.Refused (refusal number place) ≡ Opened.Items n c = rw k at e in
         let z : _≡_ {A = ℕ} 0 1 = cc in
         absurd (omega arith)
 
 pub cursor-refused :
-    (d : List ℕ) (r : Refusal) → cursorOn d ≡ Opened.Refused r → datagramCheck d ≡ refused (r .number) (r .place)
+    (reduced : Bool) (d : List ℕ) (r : Refusal) → cursorOn reduced d ≡ Opened.Refused r
+    → datagramCheck reduced d ≡ refused (r .number) (r .place)
 unfolding cursorOn
-cursor-refused d r e = go (datagramCheck d) refl
+cursor-refused reduced d r e = go (datagramCheck reduced d) refl
   where
-    go : (k : Check) → datagramCheck d ≡ k → datagramCheck d ≡ refused (r .number) (r .place)
+    go : (k : Check) → datagramCheck reduced d ≡ k → datagramCheck reduced d ≡ refused (r .number) (r .place)
     go passed k =
         let o : Opened.Items (length (datagramItems d)) start ≡ Opened.Refused r = rw k at e in
         let z : _≡_ {A = ℕ} 0 1 = cc in
@@ -246,20 +250,21 @@ cursor-refused d r e = go (datagramCheck d) refl
 
 -- ---- what taking a datagram in answers, and the list afterwards, one law a return
 
-module _ (t : Table) (d : List ℕ) (origin : Origin) (at : Reading) (answers : List ℕ) where
+module _ (t : Table) (reduced : Bool) (d : List ℕ) (origin : Origin) (at : Reading) (answers : List ℕ) where
   -- an answer and a list are what the definitions say
   abbrev pub Answers : DatagramAnswered → List ℕ → Type 0
-  Answers r after = (r ≡ datagramAnswered t d origin at answers) × (after ≡ answersAfter t d origin at answers)
+  Answers r after =
+      (r ≡ datagramAnswered t reduced d origin at answers) × (after ≡ answersAfter t reduced d origin at answers)
 
   pub answered-refused :
-      (r : Refusal) → cursorOn d ≡ Opened.Refused r
+      (r : Refusal) → cursorOn reduced d ≡ Opened.Refused r
       → Answers (record { number = r .number; place = r .place; count = 0; table = t }) answers
   unfolding datagramAnswered answersAfter
-  answered-refused r e = rw (cursor-refused d r e) (refl, refl)
+  answered-refused r e = rw (cursor-refused reduced d r e) (refl, refl)
 
   module _
       (n : ℕ) (c : Cursor) (count : ℕ)
-      (e : cursorOn d ≡ Opened.Items n c) (h : count ≡ callCount (given n d c)) where
+      (e : cursorOn reduced d ≡ Opened.Items n c) (h : count ≡ callCount (given n d c)) where
     -- the calls as they were counted and made, and as the definitions have them
     abbrev given-calls : List Call
     given-calls = callsIn origin at (given n d c)
@@ -267,11 +272,11 @@ module _ (t : Table) (d : List ℕ) (origin : Origin) (at : Reading) (answers : 
     abbrev calls : List Call
     calls = callsIn origin at (datagramItems d)
 
-    checked : datagramCheck d ≡ passed
-    checked = cursor-items d n c e .0
+    checked : datagramCheck reduced d ≡ passed
+    checked = cursor-items reduced d n c e .0
 
     same-calls : given-calls ≡ calls
-    same-calls = ap (callsIn origin at) (cursor-items d n c e .1)
+    same-calls = ap (callsIn origin at) (cursor-items reduced d n c e .1)
 
     many : count ≡ length calls
     many = h ∙ sym (length-calls origin at (given n d c)) ∙ ap length same-calls

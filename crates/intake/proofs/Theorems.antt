@@ -1,8 +1,8 @@
--- What a caller may rely on, beyond the call's own contract: how long a list is long enough, and that demand 3 reaches
--- the table that a datagram or an item of it leaves.
+-- What a caller may rely on, beyond the call's own contract: how long a list is long enough, that demand 3 reaches the
+-- table that a datagram or an item of it leaves, and what reduced size changes (E2).
 use Prim.Native.Nat.{ℕ, _+_, _≤_}
 use mathlib.Core.Path.{_≡_, refl, ap, _∙_}
-use mathlib.Core.Bool.{true, false}
+use mathlib.Core.Bool.{Bool, true, false}
 use mathlib.Core.List.{List, [], _∷_, _++_}
 use lib.Dec.{ltb}
 use lib.ListN.{length, drop}
@@ -24,16 +24,21 @@ use Rattle.table.specs.History.{answersFrom, tableFrom, Reached}
 use Rattle.table.proofs.Agreement.Theorem.{reached-further, reached-answers}
 use Rattle.packet.specs.Bytes.{AreBytes}
 use Rattle.packet.specs.Report.{reportAt}
-use Rattle.packet.specs.Checks.{passed}
+use Rattle.refusals.specs.Refusals.{badFirst}
+use Rattle.packet.specs.Checks.{Check, passed, refused}
+use Rattle.packet.proofs.Laws.Checks.{Refuses}
 use Rattle.datagram.specs.Datagram.{datagramCheck, datagramItems}
 use Rattle.datagram.specs.Answers.{itemCount}
 use Rattle.packet.proofs.Laws.Bytes.{be64-bound}
 use Rattle.datagram.proofs.Laws.Answers.{datagram-passed}
+use Rattle.datagram.proofs.Theorems.{datagram-not-four, datagram-alike, passes-agreed}
 use Rattle.rtcp.proofs.Laws.ItemPlaces.{All, none, also, ReadFrom, report, setting, farewell, items-read, item-read}
 use Rattle.rtcp.proofs.Theorems.{count-bound}
-use Rattle.intake.specs.Datagrams.{callsOf, callsIn, datagramAnswered, answersAfter}
+use Rattle.intake.specs.Datagrams.{callsOf, callsIn, answeredUnless, numbersUnless}
+use Rattle.intake.specs.Datagrams.{datagramAnswered, answersAfter}
 use Rattle.intake.specs.Steps.{callsOfItem, callCount}
 use Rattle.intake.specs.Reaching.{datagramCalls, EveryDatagram, OneMade, EveryItem}
+use Rattle.intake.specs.ReducedSize.{EveryDatagramTaken}
 use Rattle.intake.proofs.Laws.{length-calls}
 
 calls-of-item-bound : (item : Item) → callsOfItem item ≤ 1
@@ -48,11 +53,11 @@ calls-of-items (x ∷ xs) = omega (arith, calls-of-item-bound (x .item), calls-o
 
 -- As many numbers as the datagram has items are enough, and so are 512.
 pub enough-numbers :
-    (d : List ℕ) (n : ℕ) (origin : Origin) (at : Reading) → itemCount d ≡ Count.Items n
+    (reduced : Bool) (d : List ℕ) (n : ℕ) (origin : Origin) (at : Reading) → itemCount reduced d ≡ Count.Items n
     → (length (callsIn origin at (datagramItems d)) ≤ n) × (n ≤ 512)
-enough-numbers d n origin at e =
-    let bound : _ = count-bound d n e in
-    let items : _ = datagram-passed d n e in (
+enough-numbers reduced d n origin at e =
+    let bound : _ = count-bound reduced d n e in
+    let items : _ = datagram-passed reduced d n e in (
       omega (arith, length-calls origin at (datagramItems d), calls-of-items (datagramItems d), items .1),
       omega (arith, bound .0, bound .1),
     )
@@ -79,9 +84,10 @@ calls-in-range d origin at h (also {x} {l} here rest) =
 
 -- Each call of a datagram of bytes that is not refused is in range.
 pub datagram-in-range :
-    (d : List ℕ) (origin : Origin) (at : Reading) → AreBytes d → datagramCheck d ≡ passed
+    (reduced : Bool) (d : List ℕ) (origin : Origin) (at : Reading) → AreBytes d → datagramCheck reduced d ≡ passed
     → AllInRange (datagramCalls d origin at)
-datagram-in-range d origin at h check = calls-in-range d origin at h (items-read d check)
+datagram-in-range reduced d origin at h check =
+    calls-in-range d origin at h (items-read d (passes-agreed reduced d check))
 
 -- the register's answers behind those to the calls before
 answers-behind :
@@ -94,11 +100,11 @@ answers-behind o calls more =
 -- Of every datagram of bytes all calls are made, and answered as the register answers them, or none is.
 pub datagram-reached : EveryDatagram
 unfolding datagramAnswered answersAfter
-datagram-reached o calls t rows here d h origin at lent =
+datagram-reached o calls t rows here reduced d h origin at lent =
     record {
       made = λ check room.
           let more = datagramCalls d origin at in
-          let ranges : AllInRange more = datagram-in-range d origin at h check in
+          let ranges : AllInRange more = datagram-in-range reduced d origin at h check in
           let enough : ltb (length lent) (length more) ≡ false = le-ltb (length lent) (length more) room in
           let behind : drop (length calls) (answers o [] (calls ++ more)) ≡ answers o rows more =
           rw (here .rows-are) (answers-behind o calls more) in
@@ -139,12 +145,41 @@ module _ (o : Opening) (calls : List Call) (t : Table) (rows : Rows) (here : Rea
 -- Every item of it, taken in by its index, is one call, answered as the register answers it, or changes nothing.
 pub item-reached : EveryItem
 unfolding taken
-item-reached o calls t rows here d h index origin at =
+item-reached o calls t rows here reduced d h index origin at =
     record {
-      report = λ place r e. made (item-in-range d origin at h (item-read d index _ e));
-      farewell = λ place source e. made (item-in-range d origin at h (item-read d index _ e));
+      report = λ place r e. made (item-in-range d origin at h (item-read reduced d index _ e));
+      farewell = λ place source e. made (item-in-range d origin at h (item-read reduced d index _ e));
       settings = λ place s e. refl;
     }
   where
     made : {call : Call} → AllInRange (call ∷ []) → OneMade o calls t rows call (callTaken t call)
     made {call} = call-made o calls t rows here call
+
+-- ---- reduced size
+
+module _ (t : Table) (calls : List Call) (lent : List ℕ) where
+  answered-not-four :
+      (k : Check) → Refuses (λ (number place : ℕ). number ≡ badFirst → ⊥) k
+      → answeredUnless k t calls lent .number ≡ badFirst → ⊥
+  answered-not-four (refused number place) h four = h number place refl four
+  answered-not-four passed h four = go (ltb (length lent) (length calls)) refl
+    where
+      go : (b : Bool) → ltb (length lent) (length calls) ≡ b → ⊥
+      go true b = omega (arith, rw b at four)
+      go false b = omega (arith, rw b at four)
+
+-- Change request E2, for every datagram that is taken in.
+pub every-datagram-taken : EveryDatagramTaken
+unfolding datagramAnswered answersAfter
+every-datagram-taken =
+    record {
+      alike = λ d t origin at lent h.
+          let calls = datagramCalls d origin at in
+          let same : datagramCheck true d ≡ datagramCheck false d =
+          datagram-alike d (λ e. h (ap (λ (k : Check). answeredUnless k t calls lent .number) e)) in (
+            ap (λ (k : Check). answeredUnless k t calls lent) same,
+            ap (λ (k : Check). numbersUnless k t calls lent) same,
+          );
+      never-four = λ d t origin at lent.
+          answered-not-four t (datagramCalls d origin at) lent (datagramCheck true d) (datagram-not-four d);
+    }

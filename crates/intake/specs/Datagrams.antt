@@ -1,7 +1,7 @@
 -- A whole datagram taken into a table: it is checked first; then each report and each farewell in it is a call, in the
 -- order of items, and its number goes into a lent list. A list shorter than the calls gets 10, and nothing changes.
 use Prim.Native.Nat.{ℕ}
-use mathlib.Core.Bool.{cond}
+use mathlib.Core.Bool.{Bool, cond}
 use mathlib.Core.List.{List, [], _∷_, _++_}
 use lib.Dec.{ltb}
 use lib.ListN.{length, drop}
@@ -52,11 +52,12 @@ abbrev pub numbersUnless : Check → Table → List Call → List ℕ → List �
 numbersUnless passed t calls answers = numbersAfter t calls answers
 numbersUnless (refused number place) t calls answers = answers
 
--- what taking a datagram in answers, with the table afterwards
-unfoldable pub datagramAnswered : Table → List ℕ → Origin → Reading → List ℕ → DatagramAnswered
-datagramAnswered t d origin at answers =
-    answeredUnless (datagramCheck d) t (callsIn origin at (datagramItems d)) answers
+-- what taking a datagram in answers, with the table afterwards; `reduced` says whether reduced size was agreed
+unfoldable pub datagramAnswered : Table → Bool → List ℕ → Origin → Reading → List ℕ → DatagramAnswered
+datagramAnswered t reduced d origin at answers =
+    answeredUnless (datagramCheck reduced d) t (callsIn origin at (datagramItems d)) answers
 
 -- and the lent list afterwards
-unfoldable pub answersAfter : Table → List ℕ → Origin → Reading → List ℕ → List ℕ
-answersAfter t d origin at answers = numbersUnless (datagramCheck d) t (callsIn origin at (datagramItems d)) answers
+unfoldable pub answersAfter : Table → Bool → List ℕ → Origin → Reading → List ℕ → List ℕ
+answersAfter t reduced d origin at answers =
+    numbersUnless (datagramCheck reduced d) t (callsIn origin at (datagramItems d)) answers

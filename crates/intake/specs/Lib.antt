@@ -1,3 +1,4 @@
 pub mod Datagrams
 pub mod Steps
 pub mod Reaching
+pub mod ReducedSize

@@ -115,18 +115,20 @@ fn make_calls(
     table
 }
 
-// Checks and counts first: after any refusal, or where the list is shorter than the calls, all is as before.
+// Checks and counts first: after any refusal, or where the list is shorter than the calls, all is as before. `reduced`
+// says whether reduced size was agreed.
 pub fn take_datagram(
     t: Table,
     d: &[u8],
+    reduced: bool,
     origin: Origin,
     at: Reading,
     answers: &mut [u64],
 ) -> DatagramAnswered
-    ensures { λ r. ⌜ r ≡ datagramAnswered t (now (d .entry)) origin at (now (answers .entry)) ⌝ }
-    ensures { λ _. ⌜ now (answers .exit) ≡ answersAfter t (now (d .entry)) origin at (now (answers .entry)) ⌝ }
+    ensures { λ r. ⌜ r ≡ datagramAnswered t reduced (now (d .entry)) origin at (now (answers .entry)) ⌝ }
+    ensures { λ _. ⌜ now (answers .exit) ≡ answersAfter t reduced (now (d .entry)) origin at (now (answers .entry)) ⌝ }
 {
-    match open_datagram(d) {
+    match open_datagram(d, reduced) {
         Opened::Refused(r) => DatagramAnswered {
             number: r.number,
             place: r.place as u64,

@@ -2,8 +2,8 @@
 use Prim.Native.Nat.{ℕ, _≤_}
 use mathlib.Core.Path.{_≡_, refl}
 use mathlib.Core.List.{List}
+use mathlib.Core.Bool.{Bool}
 use native.Mathlib.Omega.{arith}
-use Rattle.packet.specs.Checks.{Check}
 use Rattle.packet.specs.Packet.{headCheck}
 use Rattle.packet.specs.Report.{blockCheck}
 use Rattle.packet.proofs.Laws.Checks.{Refuses}
@@ -12,9 +12,10 @@ use Rattle.packet.proofs.Laws.Blocks.{block-refuses}
 
 -- 2 to 5 with the packet's start
 pub head-numbered :
-    (d : List ℕ) (p : ℕ) → Refuses (λ (number place : ℕ). (2 ≤ number) × (number ≤ 5) × (place ≡ p)) (headCheck d p)
-head-numbered d p =
-    head-refuses (λ (number place : ℕ). (2 ≤ number) × (number ≤ 5) × (place ≡ p)) d p
+    (reduced : Bool) (d : List ℕ) (p : ℕ)
+    → Refuses (λ (number place : ℕ). (2 ≤ number) × (number ≤ 5) × (place ≡ p)) (headCheck reduced d p)
+head-numbered reduced d p =
+    head-refuses (λ (number place : ℕ). (2 ≤ number) × (number ≤ 5) × (place ≡ p)) reduced d p
     (omega arith, omega arith, refl)
     (omega arith, omega arith, refl)
     (omega arith, omega arith, refl)

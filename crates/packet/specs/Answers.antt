@@ -2,7 +2,7 @@
 -- refusal, whose place is the packet's or the block's.
 use Prim.Native.Nat.{ℕ, _-_}
 use mathlib.Core.List.{List}
-use mathlib.Core.Bool.{cond, _||_}
+use mathlib.Core.Bool.{Bool, cond, _||_}
 use lib.ListN.{length}
 use lib.Dec.{ltb}
 use Rattle.idms.specs.declared.Report.{Report}
@@ -30,8 +30,8 @@ headUnless passed h = Entry.Head h
 headUnless (refused number place) h = Entry.Refused number
 
 -- the header of the packet at p
-unfoldable pub entry : List ℕ → ℕ → Entry
-entry d p = headUnless (headCheck d p) (headOf d p)
+unfoldable pub entry : Bool → List ℕ → ℕ → Entry
+entry reduced d p = headUnless (headCheck reduced d p) (headOf d p)
 
 -- what the packet at p holds
 unfoldable pub packetIs : List ℕ → ℕ → Packet

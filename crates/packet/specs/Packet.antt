@@ -82,12 +82,17 @@ opens (PacketType.Xr least) = false
 opens (PacketType.Settings exact) = false
 opens PacketType.Other = false
 
+-- Check 4: the packet is the first and neither an SR nor an RR. `reduced` says, here and in every definition that takes
+-- it, whether reduced-size RTCP (RFC 5506) was agreed: any type may then come first (E2).
+unfoldable pub firstIsBad : Bool → ℕ → PacketType → Bool
+firstIsBad reduced p t = eqb p 0 && not (opens t) && not reduced
+
 -- checks 2, 3, 4 and 5 of one packet, in that order
-unfoldable pub headCheck : List ℕ → ℕ → Check
-headCheck d p =
+unfoldable pub headCheck : Bool → List ℕ → ℕ → Check
+headCheck reduced d p =
     refuseIf (not (eqb (version d p) 2)) badPacket p
     (refuseIf (ltb (length d) (p + size d p)) badPacket p
     (refuseIf (paddingIsBad d p) badPadding p
-    (refuseIf (eqb p 0 && not (opens (kind d p))) badFirst p
+    (refuseIf (firstIsBad reduced p (kind d p)) badFirst p
     (refuseIf (contentIsShort (kind d p) (content d p)) shortContent p
     passed))))

@@ -11,11 +11,11 @@ use refusals::BAD_PACKET;
 use refusals::BAD_PADDING;
 use refusals::SHORT_CONTENT;
 ghost use mathlib.Core.Path.{_≡_};
-ghost use mathlib.Core.Bool.{not, _&&_, _||_};
+ghost use mathlib.Core.Bool.{not, _||_};
 ghost use Prim.Native.Nat.{_+_, _-_, _/_, _%_, _≤_};
 ghost use lib.ListN.{length};
 ghost use lib.Dec.{eqb, ltb};
-ghost use Rattle.packet.specs.Packet.{size, paddingIsBad, content, kindOf, opens};
+ghost use Rattle.packet.specs.Packet.{size, paddingIsBad, content, kindOf, firstIsBad};
 ghost use Rattle.packet.specs.Answers.{headOf, entry};
 
 // What later steps use of a header. `content` counts the header and not the padding.
@@ -89,15 +89,18 @@ fn unpadded(d: &[u8], p: usize, bytes: usize) -> usize
     bytes
 }
 
-// Check 4: the first packet is an SR or an RR.
-fn is_bad_first(p: usize, number: u8, count: u8) -> bool
-    ensures { λ r. ⌜ r ≡ (eqb p 0 && not (opens (kindOf number count))) ⌝ }
+// Check 4: the first packet is an SR or an RR, unless reduced size was agreed.
+fn is_bad_first(reduced: bool, p: usize, number: u8, count: u8) -> bool
+    ensures { λ r. ⌜ r ≡ firstIsBad reduced p (kindOf number count) ⌝ }
 {
     if p != 0 {
         return false;
     }
     let kind = kind_of(number, count);
-    !is_opening(kind)
+    if is_opening(kind) {
+        return false;
+    }
+    !reduced
 }
 
 // The header of the packet at p, which lies in the datagram.
@@ -114,9 +117,10 @@ pub(crate) fn known_head(d: &[u8], p: usize, bytes: usize) -> Head
     }
 }
 
-// The header of the packet at p, once checks 2, 3, 4 and 5 have passed.
-pub fn head_at(d: &[u8], p: usize) -> Entry
-    ensures { λ r. ⌜ r ≡ entry (now (d .entry)) p ⌝ }
+// The header of the packet at p, once checks 2, 3, 4 and 5 have passed, of which 4 is made unless reduced size was
+// agreed.
+pub fn head_at(d: &[u8], reduced: bool, p: usize) -> Entry
+    ensures { λ r. ⌜ r ≡ entry reduced (now (d .entry)) p ⌝ }
 {
     if saturating_sub(d.len(), p) < 4 {
         return Entry::Refused(BAD_PACKET);
@@ -129,7 +133,7 @@ pub fn head_at(d: &[u8], p: usize) -> Entry
         return Entry::Refused(BAD_PACKET);
     }
     let padding = is_badly_padded(d, p, bytes);
-    let first = is_bad_first(p, d[p + 1], d[p] % 32);
+    let first = is_bad_first(reduced, p, d[p + 1], d[p] % 32);
     if padding {
         return Entry::Refused(BAD_PADDING);
     }

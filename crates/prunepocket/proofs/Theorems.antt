@@ -33,7 +33,8 @@ use Rattle.datagram.specs.Datagram.{DatagramNumber, datagramCheck, datagramItem
 use Rattle.datagram.specs.Answers.{itemCount}
 use Rattle.rtcp.specs.Answers.{itemOf}
 use Rattle.rtcp.specs.Rows.{rowsAnswer}
-use Rattle.rtcp.proofs.Theorems.{Numbered, datagram-numbered, count-numbered, item-numbered, rows-numbered}
+use Rattle.datagram.proofs.Theorems.{Numbered, datagram-numbered}
+use Rattle.rtcp.proofs.Theorems.{count-numbered, item-numbered, rows-numbered}
 use Rattle.writer.specs.Messages.{settingsMessage}
 use Rattle.sdp.specs.declared.SyncGroup.{SyncGroup}
 use Rattle.sdp.specs.Line.{groupMessage}
@@ -58,14 +59,17 @@ count-accepted (Count.Refused r) h = ((λ e. absurd (omega (arith, h r refl))), 
 
 -- prunepocket_count_items
 pub count-items-accepted :
-    (d : List ℕ) → (countAnswer (itemCount d) .number ≡ 0) ↔ ((n : ℕ) × (itemCount d ≡ Count.Items n))
-count-items-accepted d = count-accepted (itemCount d) (λ r e. count-numbered d r e .0)
+    (reduced : Bool) (d : List ℕ)
+    → (countAnswer (itemCount reduced d) .number ≡ 0) ↔ ((n : ℕ) × (itemCount reduced d ≡ Count.Items n))
+count-items-accepted reduced d = count-accepted (itemCount reduced d) (λ r e. count-numbered reduced d r e .0)
 
 -- prunepocket_read_items
 pub read-items-accepted :
-    (d rows : List ℕ) → (countAnswer (rowsAnswer d rows) .number ≡ 0) ↔ ((n : ℕ) × (rowsAnswer d rows ≡ Count.Items n))
-read-items-accepted d rows =
-    count-accepted (rowsAnswer d rows) (λ r e. ⊎-elim (λ z. z .0) (λ z. omega arith) (rows-numbered d rows r e))
+    (reduced : Bool) (d rows : List ℕ)
+    → (countAnswer (rowsAnswer reduced d rows) .number ≡ 0) ↔ ((n : ℕ) × (rowsAnswer reduced d rows ≡ Count.Items n))
+read-items-accepted reduced d rows =
+    count-accepted (rowsAnswer reduced d rows)
+    (λ r e. ⊎-elim (λ z. z .0) (λ z. omega arith) (rows-numbered reduced d rows r e))
 
 field-accepted :
     (f : Found) (field : ℕ) → ((r : Refusal) → f ≡ Found.Refused r → 1 ≤ r .number)
@@ -91,11 +95,12 @@ field-accepted (Found.Item x) field h = (there (fieldOf x field) refl, back)
 
 -- prunepocket_item_field
 pub item-field-accepted :
-    (d : List ℕ) (index field : ℕ)
-    → (fieldAnswer (itemOf d index) field .number ≡ 0)
-    ↔ ((x : Placed) × (v : ℕ) × (itemOf d index ≡ Found.Item x) × (fieldOf x field ≡ Field.Value v))
-item-field-accepted d index field =
-    field-accepted (itemOf d index) field (λ r e. ⊎-elim (λ z. z .0) (λ z. omega arith) (item-numbered d index r e))
+    (reduced : Bool) (d : List ℕ) (index field : ℕ)
+    → (fieldAnswer (itemOf reduced d index) field .number ≡ 0)
+    ↔ ((x : Placed) × (v : ℕ) × (itemOf reduced d index ≡ Found.Item x) × (fieldOf x field ≡ Field.Value v))
+item-field-accepted reduced d index field =
+    field-accepted (itemOf reduced d index) field
+    (λ r e. ⊎-elim (λ z. z .0) (λ z. omega arith) (item-numbered reduced d index r e))
 
 -- ---- the calls that write
 
@@ -183,22 +188,24 @@ module _ (t : Table) (calls : List Call) (answers : List ℕ) where
       go false b = rw b (inl refl)
 
 -- prunepocket_take_datagram: 0 exactly where the datagram is not refused and the list is long enough
-module _ (t : Table) (d : List ℕ) (origin : Origin) (at : Reading) (answers : List ℕ) where
+module _ (t : Table) (reduced : Bool) (d : List ℕ) (origin : Origin) (at : Reading) (answers : List ℕ) where
   pub take-datagram-accepted :
-      (datagramAnswered t d origin at answers .number ≡ 0)
-      ↔ ((datagramCheck d ≡ passed) × (length (callsIn origin at (datagramItems d)) ≤ length answers))
+      (datagramAnswered t reduced d origin at answers .number ≡ 0)
+      ↔ ((datagramCheck reduced d ≡ passed) × (length (callsIn origin at (datagramItems d)) ≤ length answers))
   unfolding datagramAnswered
   take-datagram-accepted =
-      answered-accepted t (callsIn origin at (datagramItems d)) answers (datagramCheck d) (datagram-numbered d)
+      answered-accepted t (callsIn origin at (datagramItems d)) answers (datagramCheck reduced d)
+      (datagram-numbered reduced d)
 
   -- else 1 to 7, or 10
   pub take-datagram-numbered :
-      (datagramAnswered t d origin at answers .number ≡ 0)
-      ⊎ DatagramNumber (datagramAnswered t d origin at answers .number)
-      ⊎ (datagramAnswered t d origin at answers .number ≡ shortBuffer)
+      (datagramAnswered t reduced d origin at answers .number ≡ 0)
+      ⊎ DatagramNumber (datagramAnswered t reduced d origin at answers .number)
+      ⊎ (datagramAnswered t reduced d origin at answers .number ≡ shortBuffer)
   unfolding datagramAnswered
   take-datagram-numbered =
-      answered-numbered t (callsIn origin at (datagramItems d)) answers (datagramCheck d) (datagram-numbered d)
+      answered-numbered t (callsIn origin at (datagramItems d)) answers (datagramCheck reduced d)
+      (datagram-numbered reduced d)
 
 -- ---- choosing
 

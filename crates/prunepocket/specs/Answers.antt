@@ -1,6 +1,8 @@
 -- The answers of the exported functions, and what stands in the lent memory afterwards: a value where the call was not
 -- refused, and what was there before where it was.
 use Prim.Native.Nat.{ℕ}
+use mathlib.Core.Bool.{Bool, not}
+use lib.Dec.{eqb}
 use Rattle.idms.specs.Rows.{fieldOf}
 use Rattle.idms.specs.declared.Field.{Field}
 use Rattle.idms.specs.declared.Refusal.{Refusal}
@@ -8,6 +10,10 @@ use Rattle.datagram.specs.declared.Count.{Count}
 use Rattle.idms.specs.declared.Found.{Found}
 use Rattle.refusals.specs.Refusals.{noSuchItem}
 use Rattle.prunepocket.specs.declared.Answer.{Answer}
+
+-- whether reduced size was agreed, as C says it: 0 that it was not, and every other number that it was
+abbrev pub agreed : ℕ → Bool
+agreed n = not (eqb n 0)
 
 -- number 0 at place 0: the call was not refused
 abbrev pub noRefusal : Answer

@@ -19,7 +19,7 @@ ghost use Rattle.rtcp.specs.Rows.{rowsAnswer, rowsAfter};
 ghost use Rattle.writer.specs.Messages.{settingsMessage};
 ghost use Rattle.prunepocket.specs.Messages.{reportOf, reportMessageWithP, settingsOf};
 ghost use Rattle.prunepocket.specs.Messages.{writeAnswer, writeAfter, Wrote};
-ghost use Rattle.prunepocket.specs.Answers.{noRefusal, refusalAnswer, countAnswer, countAfter};
+ghost use Rattle.prunepocket.specs.Answers.{agreed, noRefusal, refusalAnswer, countAnswer, countAfter};
 ghost use Rattle.prunepocket.specs.Answers.{fieldAnswer, fieldAfter};
 
 // A refusal's number and place, or 0 and 0 where there was none.
@@ -49,13 +49,26 @@ fn refuse(r: Refusal) -> Answer
     }
 }
 
+// Whether reduced size was agreed. C says it by a number, since each of its values has a meaning; a bool from C that is
+// neither 0 nor 1 would have none.
+pub(crate) fn is_agreed(number: u32) -> bool
+    ensures { λ r. ⌜ r ≡ agreed number ⌝ }
+{
+    number != 0
+}
+
 // Puts how many items a datagram has into `count`, which a refusal leaves as it was.
 #[no_mangle]
-pub extern "C" fn prunepocket_count_items(datagram: &[u8], count: &mut u64) -> Answer
-    ensures { λ r. ⌜ (r ≡ countAnswer (itemCount (now (datagram .entry))))
-        × (now (count .exit) ≡ countAfter (itemCount (now (datagram .entry))) (now (count .entry))) ⌝ }
+pub extern "C" fn prunepocket_count_items(
+    datagram: &[u8],
+    reduced_size: u32,
+    count: &mut u64,
+) -> Answer
+    ensures { λ r. ⌜ (r ≡ countAnswer (itemCount (agreed «reduced_size») (now (datagram .entry))))
+        × (now (count .exit)
+        ≡ countAfter (itemCount (agreed «reduced_size») (now (datagram .entry))) (now (count .entry))) ⌝ }
 {
-    match rtcp::count_items(datagram) {
+    match rtcp::count_items(datagram, is_agreed(reduced_size)) {
         Count::Refused(r) => refuse(r),
         Count::Items(n) => {
             *count = n as u64;
@@ -69,14 +82,16 @@ pub extern "C" fn prunepocket_count_items(datagram: &[u8], count: &mut u64) -> A
 #[no_mangle]
 pub extern "C" fn prunepocket_item_field(
     datagram: &[u8],
+    reduced_size: u32,
     index: u64,
     field: u64,
     value: &mut u64,
 ) -> Answer
-    ensures { λ r. ⌜ (r ≡ fieldAnswer (itemOf (now (datagram .entry)) index) field)
-        × (now (value .exit) ≡ fieldAfter (itemOf (now (datagram .entry)) index) field (now (value .entry))) ⌝ }
+    ensures { λ r. ⌜ (r ≡ fieldAnswer (itemOf (agreed «reduced_size») (now (datagram .entry)) index) field)
+        × (now (value .exit)
+        ≡ fieldAfter (itemOf (agreed «reduced_size») (now (datagram .entry)) index) field (now (value .entry))) ⌝ }
 {
-    match rtcp::item_at(datagram, index as usize) {
+    match rtcp::item_at(datagram, is_agreed(reduced_size), index as usize) {
         Found::Refused(r) => refuse(r),
         Found::Item(x) => match idms::field_at(x, field) {
             Field::Absent => Answer {
@@ -96,15 +111,17 @@ pub extern "C" fn prunepocket_item_field(
 #[no_mangle]
 pub extern "C" fn prunepocket_read_items(
     datagram: &[u8],
+    reduced_size: u32,
     rows: &mut [u64],
     count: &mut u64,
 ) -> Answer
-    ensures { λ r. ⌜ (r ≡ countAnswer (rowsAnswer (now (datagram .entry)) (now (rows .entry))))
-        × (now (rows .exit) ≡ rowsAfter (now (datagram .entry)) (now (rows .entry)))
+    ensures { λ r. ⌜ (r ≡ countAnswer (rowsAnswer (agreed «reduced_size») (now (datagram .entry)) (now (rows .entry))))
+        × (now (rows .exit) ≡ rowsAfter (agreed «reduced_size») (now (datagram .entry)) (now (rows .entry)))
         × (now (count .exit)
-        ≡ countAfter (rowsAnswer (now (datagram .entry)) (now (rows .entry))) (now (count .entry))) ⌝ }
+        ≡ countAfter (rowsAnswer (agreed «reduced_size») (now (datagram .entry)) (now (rows .entry)))
+        (now (count .entry))) ⌝ }
 {
-    match rtcp::read_items(datagram, rows) {
+    match rtcp::read_items(datagram, is_agreed(reduced_size), rows) {
         Count::Refused(r) => refuse(r),
         Count::Items(items) => {
             *count = items as u64;

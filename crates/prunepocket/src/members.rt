@@ -1,4 +1,5 @@
 // The member table for C, which holds it by value and passes it from call to call.
+use crate::is_agreed;
 use intake::DatagramAnswered;
 use intake::take_datagram;
 use origin::Origin;
@@ -15,6 +16,7 @@ ghost use Rattle.table.specs.Members.{memberCount, placeAt};
 ghost use Rattle.table.specs.Calls.{opened, answered};
 ghost use Rattle.table.specs.Choose.{choiceOf};
 ghost use Rattle.intake.specs.Datagrams.{datagramAnswered, answersAfter};
+ghost use Rattle.prunepocket.specs.Answers.{agreed};
 ghost use Rattle.prunepocket.specs.Following.{noTarget, followedOf};
 
 // What choosing answers: 0 and the target, or a refusal's number and a target of zeros; and the table as it was.
@@ -62,14 +64,17 @@ pub extern "C" fn prunepocket_sweep(t: Table, at: Reading) -> Answered
 pub extern "C" fn prunepocket_take_datagram(
     t: Table,
     datagram: &[u8],
+    reduced_size: u32,
     origin: Origin,
     at: Reading,
     answers: &mut [u64],
 ) -> DatagramAnswered
-    ensures { λ r. ⌜ r ≡ datagramAnswered t (now (datagram .entry)) origin at (now (answers .entry)) ⌝ }
-    ensures { λ _. ⌜ now (answers .exit) ≡ answersAfter t (now (datagram .entry)) origin at (now (answers .entry)) ⌝ }
+    ensures { λ r. ⌜ r
+        ≡ datagramAnswered t (agreed «reduced_size») (now (datagram .entry)) origin at (now (answers .entry)) ⌝ }
+    ensures { λ _. ⌜ now (answers .exit)
+        ≡ answersAfter t (agreed «reduced_size») (now (datagram .entry)) origin at (now (answers .entry)) ⌝ }
 {
-    take_datagram(t, datagram, origin, at, answers)
+    take_datagram(t, datagram, is_agreed(reduced_size), origin, at, answers)
 }
 
 // How many members there are.

@@ -76,9 +76,9 @@ fn opened(table: Table, group: u32, media: u32, rate: u32) -> Answered {
 }
 
 // A source that sends P1's report, and the last number that was not 0.
-fn filled_one(a: Answered, source: u32, reading: Reading) -> Answered {
+fn filled_one(a: Answered, source: u32, reading: Reading, reduced: bool) -> Answered {
     let x = first_record(source);
-    let b = taken(a.table, read_report(x), x.origin, reading);
+    let b = taken(a.table, read_report(x, reduced), x.origin, reading);
     if b.number != 0 {
         return b;
     }
@@ -90,31 +90,31 @@ fn filled_one(a: Answered, source: u32, reading: Reading) -> Answered {
 }
 
 // The sources from the first to the last.
-fn filled(table: Table, first: u32, last: u32, reading: Reading) -> Answered {
+fn filled(table: Table, first: u32, last: u32, reading: Reading, reduced: bool) -> Answered {
     let mut a = Answered { number: 0, table };
     for source in first..last {
-        a = filled_one(a, source, reading);
+        a = filled_one(a, source, reading, reduced);
     }
-    filled_one(a, last, reading)
+    filled_one(a, last, reading, reduced)
 }
 
 // The call of a step, with the report that the step tells, if it tells one.
-fn called(table: Table, line: Line, x: Record, reading: Reading) -> Answered {
+fn called(table: Table, line: Line, x: Record, reading: Reading, reduced: bool) -> Answered {
     let form = line.form;
     match form {
         REPORT => table.report(x, reading),
-        SEND_REPORT => taken(table, read_report(x), x.origin, reading),
+        SEND_REPORT => taken(table, read_report(x, reduced), x.origin, reading),
         FAREWELL => table.farewell(x.source, x.origin),
         SWEEP => table.sweep(reading),
-        FILL => filled(table, x.source, value32(line, 1), reading),
+        FILL => filled(table, x.source, value32(line, 1), reading, reduced),
         OPEN => opened(table, x.source, value32(line, 1), value32(line, 2)),
-        _ => taken(table, read_farewell(x.source), x.origin, reading),
+        _ => taken(table, read_farewell(x.source, reduced), x.origin, reading),
     }
 }
 
 pub(crate) fn call(table: Table, line: Line, scene: Scene) -> Told {
     let reading = scene.reading;
-    let a = called(table, line, record_of(scene, line), reading);
+    let a = called(table, line, record_of(scene, line), reading, scene.reduced);
     let next = a.table;
     Told {
         table: next,
@@ -133,10 +133,17 @@ fn taken_one(a: Answered, found: Found, origin: Origin, reading: Reading) -> Ans
 }
 
 // The items of a datagram, taken in one after the other.
-fn taken_in(table: Table, d: &[u8], count: usize, origin: Origin, reading: Reading) -> Answered {
+fn taken_in(
+    table: Table,
+    d: &[u8],
+    reduced: bool,
+    count: usize,
+    origin: Origin,
+    reading: Reading,
+) -> Answered {
     let mut a = Answered { number: 0, table };
     for i in 0..count {
-        a = taken_one(a, rtcp::item_at(d, i), origin, reading);
+        a = taken_one(a, rtcp::item_at(d, reduced, i), origin, reading);
     }
     a
 }
@@ -146,10 +153,10 @@ fn take_form(answers: u64) -> usize {
     if answers == 0 { TAKE_NONE } else { TAKE }
 }
 
-fn take(table: Table, count: Count, d: &[u8], origin: Origin, reading: Reading) -> Told {
-    match count {
+fn take(table: Table, d: &[u8], reduced: bool, origin: Origin, reading: Reading) -> Told {
+    match rtcp::count_items(d, reduced) {
         Count::Items(n) => {
-            let a = taken_in(table, d, n, origin, reading);
+            let a = taken_in(table, d, reduced, n, origin, reading);
             let next = a.table;
             Told {
                 table: next,
@@ -164,20 +171,20 @@ fn take(table: Table, count: Count, d: &[u8], origin: Origin, reading: Reading) 
 }
 
 // A step on a datagram: it is taken in, or its items are looked at.
-fn read(table: Table, line: Line, d: &[u8], reading: Reading) -> Told {
+fn read(table: Table, line: Line, d: &[u8], reduced: bool, reading: Reading) -> Told {
     let form = line.form;
     let origin = line.origin;
     match form {
-        TAKE | TAKE_NONE | TAKE_REFUSED => take(table, rtcp::count_items(d), d, origin, reading),
+        TAKE | TAKE_NONE | TAKE_REFUSED => take(table, d, reduced, origin, reading),
         ITEMS | ITEMS_REFUSED => Told {
             table,
-            line: items_line(rtcp::count_items(d), origin),
+            line: items_line(rtcp::count_items(d, reduced), origin),
         },
         _ => Told {
             table,
             line: item_line(
                 value(line, 0),
-                rtcp::item_at(d, value(line, 0) as usize),
+                rtcp::item_at(d, reduced, value(line, 0) as usize),
                 origin,
             ),
         },
@@ -189,5 +196,5 @@ pub(crate) fn read_datagram(table: Table, line: Line, scene: Scene, s: &[u8]) ->
     let mut buffer = io::buffer();
     let n = put_bytes(s, scene.datagram, &mut buffer);
     let reading = scene.reading;
-    read(table, line, &buffer[..n], reading)
+    read(table, line, &buffer[..n], scene.reduced, reading)
 }

@@ -93,17 +93,17 @@ fn report_datagram(x: Record) -> [u8; 48] {
     d
 }
 
-pub(crate) fn read_report(x: Record) -> Found {
+pub(crate) fn read_report(x: Record, reduced: bool) -> Found {
     let d = report_datagram(x);
-    rtcp::item_at(&d, 0)
+    rtcp::item_at(&d, reduced, 0)
 }
 
 // The item of an RR and a BYE packet of one source.
-pub(crate) fn read_farewell(source: u32) -> Found {
+pub(crate) fn read_farewell(source: u32, reduced: bool) -> Found {
     let a = byte_of(source, 0);
     let b = byte_of(source, 1);
     let c = byte_of(source, 2);
     let e = byte_of(source, 3);
     let d = [0x80, 201, 0, 1, 0, 0, 0, 0, 0x81, 203, 0, 1, a, b, c, e];
-    rtcp::item_at(&d, 0)
+    rtcp::item_at(&d, reduced, 0)
 }

@@ -11,70 +11,74 @@ pub(crate) const STREAM: usize = 2;
 
 pub(crate) const DATAGRAM: usize = 3;
 
-pub(crate) const OPEN: usize = 4;
+pub(crate) const REDUCED_SIZE: usize = 4;
 
-pub(crate) const REPORT: usize = 5;
+pub(crate) const NO_REDUCED_SIZE: usize = 5;
 
-pub(crate) const FAREWELL: usize = 6;
+pub(crate) const OPEN: usize = 6;
 
-pub(crate) const SEND_REPORT: usize = 7;
+pub(crate) const REPORT: usize = 7;
 
-pub(crate) const SEND_FAREWELL: usize = 8;
+pub(crate) const FAREWELL: usize = 8;
 
-pub(crate) const FILL: usize = 9;
+pub(crate) const SEND_REPORT: usize = 9;
 
-pub(crate) const SWEEP: usize = 10;
+pub(crate) const SEND_FAREWELL: usize = 10;
 
-pub(crate) const TAKE: usize = 11;
+pub(crate) const FILL: usize = 11;
 
-pub(crate) const TAKE_NONE: usize = 12;
+pub(crate) const SWEEP: usize = 12;
 
-pub(crate) const TAKE_REFUSED: usize = 13;
+pub(crate) const TAKE: usize = 13;
 
-pub(crate) const ITEMS: usize = 14;
+pub(crate) const TAKE_NONE: usize = 14;
 
-pub(crate) const ITEMS_REFUSED: usize = 15;
+pub(crate) const TAKE_REFUSED: usize = 15;
 
-pub(crate) const ITEM_REPORT: usize = 16;
+pub(crate) const ITEMS: usize = 16;
 
-pub(crate) const ITEM_SETTINGS: usize = 17;
+pub(crate) const ITEMS_REFUSED: usize = 17;
 
-pub(crate) const ITEM_FAREWELL: usize = 18;
+pub(crate) const ITEM_REPORT: usize = 18;
 
-pub(crate) const ITEM_REFUSED: usize = 19;
+pub(crate) const ITEM_SETTINGS: usize = 19;
 
-pub(crate) const CHOOSE: usize = 20;
+pub(crate) const ITEM_FAREWELL: usize = 20;
 
-pub(crate) const CHOOSE_REFUSED: usize = 21;
+pub(crate) const ITEM_REFUSED: usize = 21;
 
-pub(crate) const LATENESS: usize = 22;
+pub(crate) const CHOOSE: usize = 22;
 
-pub(crate) const AGE: usize = 23;
+pub(crate) const CHOOSE_REFUSED: usize = 23;
 
-pub(crate) const DELAY: usize = 24;
+pub(crate) const LATENESS: usize = 24;
 
-pub(crate) const MEMBERS: usize = 25;
+pub(crate) const AGE: usize = 25;
 
-pub(crate) const PLACE: usize = 26;
+pub(crate) const DELAY: usize = 26;
 
-pub(crate) const PLACE_FREE: usize = 27;
+pub(crate) const MEMBERS: usize = 27;
 
-pub(crate) const UNCHANGED: usize = 28;
+pub(crate) const PLACE: usize = 28;
 
-pub(crate) const WRITE_REPORT: usize = 29;
+pub(crate) const PLACE_FREE: usize = 29;
 
-pub(crate) const WRITE_SETTINGS: usize = 30;
+pub(crate) const UNCHANGED: usize = 30;
 
-pub(crate) const READ_LINE: usize = 31;
+pub(crate) const WRITE_REPORT: usize = 31;
 
-pub(crate) const READ_LINE_REFUSED: usize = 32;
+pub(crate) const WRITE_SETTINGS: usize = 32;
 
-pub(crate) const WRITE_LINE: usize = 33;
+pub(crate) const READ_LINE: usize = 33;
 
-pub(crate) const WRITE_LINE_REFUSED: usize = 34;
+pub(crate) const READ_LINE_REFUSED: usize = 34;
+
+pub(crate) const WRITE_LINE: usize = 35;
+
+pub(crate) const WRITE_LINE_REFUSED: usize = 36;
 
 // The form of a line that is no step, and of a step that has none of the forms.
-pub(crate) const PROSE: usize = 35;
+pub(crate) const PROSE: usize = 37;
 
 // The step at a place, with the answer that it expects. In a form # is a number, @ a time, % an origin, ? a report's
 // presented field, ! a target's presented time, & answers of calls, * words of hex, " a text; all else stands for
@@ -85,6 +89,8 @@ pub(crate) fn matched(s: &[u8], at: usize) -> Line {
           reading @ #\n\
           stream # #\n\
           datagram*\n\
+          reduced size agreed\n\
+          reduced size not agreed\n\
           open # # # = #\n\
           report # % @ # ? = #\n\
           farewell # % = #\n\
@@ -125,6 +131,8 @@ pub(crate) fn matched(s: &[u8], at: usize) -> Line {
 pub(crate) fn print_came(line: Line, s: &[u8]) {
     print_line(
         b"\n\
+          \n\
+          \n\
           \n\
           \n\
           \n\

@@ -4,8 +4,8 @@
 // A line that starts with two spaces is a step; every other line is printed as it stands, and so is a step without an
 // answer. A step that is not understood counts as an answer that was not expected. Words stand apart by one space.
 //
-//   table                                        a new table for group 42, media source 7, rate 90000, and the reading
-//                                                N = 1000 s, R = 9000000
+//   table                                        a new table for group 42, media source 7, rate 90000, the reading
+//                                                N = 1000 s, R = 9000000, and reduced size not agreed
 //   open GROUP MEDIA RATE = NUMBER               a table, which is used from then on where the number is 0
 //   reading TIME RTP                             the reading of the steps behind it
 //   stream GROUP MEDIA                           the group and media source of the reports behind it
@@ -17,6 +17,8 @@
 //                                                than its number; the last number that is not 0, or 0
 //   sweep = NUMBER
 //   datagram HEX..                               the datagram of the steps behind it
+//   reduced size agreed                          what the steps behind it that read a datagram are told
+//   reduced size not agreed
 //   take ORIGIN = NUMBER.. | none | refused NUMBER PLACE
 //   items = COUNT | refused NUMBER PLACE
 //   item INDEX = report SOURCE | settings SOURCE | farewell SOURCE | refused NUMBER PLACE
@@ -54,15 +56,14 @@ mod text;
 use crate::calls::Told;
 use crate::calls::call;
 use crate::calls::read_datagram;
-use crate::forms::DATAGRAM;
 use crate::forms::ITEM_REFUSED;
 use crate::forms::ITEMS;
+use crate::forms::NO_REDUCED_SIZE;
 use crate::forms::OPEN;
 use crate::forms::PROSE;
 use crate::forms::READ_LINE;
 use crate::forms::READING;
 use crate::forms::REPORT;
-use crate::forms::STREAM;
 use crate::forms::SWEEP;
 use crate::forms::TABLE;
 use crate::forms::TAKE;
@@ -142,7 +143,7 @@ fn told(table: Table, earlier: Table, line: Line, scene: Scene, record: Record, 
             table: usual_table(),
             line,
         },
-        READING | STREAM | DATAGRAM | PROSE => Told { table, line },
+        READING..=NO_REDUCED_SIZE | PROSE => Told { table, line },
         UNCHANGED => Told {
             table,
             line: unchanged(table, earlier, scene, origin),

@@ -1,7 +1,9 @@
 // What the steps of the text hold to, beside the table.
 use crate::forms::DATAGRAM;
+use crate::forms::NO_REDUCED_SIZE;
 use crate::forms::OPEN;
 use crate::forms::READING;
+use crate::forms::REDUCED_SIZE;
 use crate::forms::REPORT;
 use crate::forms::SEND_REPORT;
 use crate::forms::STREAM;
@@ -14,8 +16,8 @@ use register::Reading;
 use register::Record;
 use register::ReportFields;
 
-// What the table was opened for, the reading, the group and media source of reports, and where in the text the datagram
-// stands.
+// What the table was opened for, the reading, the group and media source of reports, where in the text the datagram
+// stands, and whether reduced size was agreed.
 pub(crate) struct Scene {
     pub group: u32,
     pub media: u32,
@@ -23,6 +25,7 @@ pub(crate) struct Scene {
     pub report_group: u32,
     pub report_media: u32,
     pub datagram: usize,
+    pub reduced: bool,
 }
 
 // A report with P 1 and payload type 33.
@@ -51,7 +54,7 @@ pub(crate) fn first_record(source: u32) -> Record {
     record(source, origin, 999 * 4294967296, 8910000, 0x03E78000)
 }
 
-// The papers' table and reading.
+// The papers' table and reading, where reduced size was not agreed.
 pub(crate) fn usual(datagram: usize) -> Scene {
     Scene {
         group: 42,
@@ -63,6 +66,7 @@ pub(crate) fn usual(datagram: usize) -> Scene {
         report_group: 42,
         report_media: 7,
         datagram,
+        reduced: false,
     }
 }
 
@@ -118,6 +122,12 @@ fn sent(scene: Scene, line: Line) -> Scene {
     next
 }
 
+fn told_size(scene: Scene, reduced: bool) -> Scene {
+    let mut next = scene;
+    next.reduced = reduced;
+    next
+}
+
 // The scene behind a step, whose line has the answer that came.
 pub(crate) fn scene_behind(scene: Scene, line: Line) -> Scene {
     let form = line.form;
@@ -126,6 +136,8 @@ pub(crate) fn scene_behind(scene: Scene, line: Line) -> Scene {
         READING => read(scene, line),
         STREAM => streamed(scene, line),
         DATAGRAM => sent(scene, line),
+        REDUCED_SIZE => told_size(scene, true),
+        NO_REDUCED_SIZE => told_size(scene, false),
         OPEN => opened(scene, line),
         _ => scene,
     }

@@ -14,7 +14,7 @@ badPacket = 2
 abbrev pub badPadding : ℕ
 badPadding = 3
 
--- first packet is neither 200 nor 201
+-- first packet is neither 200 nor 201, and reduced size was not agreed
 abbrev pub badFirst : ℕ
 badFirst = 4
 

@@ -10,7 +10,7 @@ pub const BAD_PACKET: u64 = 2;
 // Bad padding.
 pub const BAD_PADDING: u64 = 3;
 
-// First packet is neither 200 nor 201.
+// First packet is neither 200 nor 201, and reduced size was not agreed.
 pub const BAD_FIRST: u64 = 4;
 
 // Content too short for its type; for 211, not exactly 36 bytes.

@@ -1,4 +1,5 @@
 pub mod Answers
+pub mod Refusals
 pub mod Blocks
 pub mod ItemPlaces
 pub mod Advance

@@ -1,15 +1,15 @@
 -- The definitions at datagrams from the papers.
 use Prim.Native.Nat.{ℕ, _+_, _*_, _^_}
 use mathlib.Core.Path.{_≡_, refl}
-use mathlib.Core.Bool.{true}
+use mathlib.Core.Bool.{Bool, true, false}
 use mathlib.Core.List.{List, [], _∷_, _++_}
 use Rattle.idms.specs.declared.Report.{Report}
 use Rattle.idms.specs.declared.Settings.{Settings}
 use Rattle.idms.specs.declared.Item.{Item}
 use Rattle.idms.specs.declared.Found.{Found}
-use Rattle.refusals.specs.Refusals.{badLength, badFirst, noSuchItem}
+use Rattle.refusals.specs.Refusals.{badLength, badPadding, badFirst, noSuchItem}
 use Rattle.packet.specs.Bytes.{be16, be32, be64}
-use Rattle.packet.specs.Packet.{paddingIsBad, content, kindOf, headCheck}
+use Rattle.packet.specs.Packet.{paddingIsBad, content, kindOf, firstIsBad, headCheck}
 use Rattle.packet.specs.Report.{blockCheck, reportAt, blockItems}
 use Rattle.packet.specs.Settings.{settingsAt}
 use Rattle.datagram.specs.declared.Count.{Count}
@@ -64,16 +64,26 @@ p3-settings =
       presented = 998 * 2 ^ 32 + 0xC0000000;
     }
 
--- The empty datagram; one RR alone; P5 and P3 behind an RR; P5 with no RR before it; both behind one RR, and the second
--- of them. Each is computed from the definitions.
+-- a BYE packet of source 10, padded by 4 bytes
+padded-bye : List ℕ
+padded-bye = 0xA1 ∷ 0xCB ∷ 0 ∷ 2 ∷ 0 ∷ 0 ∷ 0 ∷ 10 ∷ 0 ∷ 0 ∷ 0 ∷ 4 ∷ []
+
+-- Whether or not reduced size was agreed: the empty datagram; one RR alone; P5 and P3 behind an RR; both behind one RR,
+-- and the second of them; a padded BYE alone. Where it was not: P5 alone. Where it was: P5 alone; P3 first, and P5
+-- behind it; a padded BYE behind P5. Each is computed from the definitions.
 vectors :
-    (itemCount [] ≡ Count.Refused (refusal badLength 0))
-    × (itemCount rr ≡ Count.Items 0)
-    × (itemOf rr 0 ≡ Found.Refused (refusal noSuchItem 0))
-    × (itemOf (rr ++ p5) 0 ≡ Found.Item (record { place = 16; item = Item.Report p5-report }))
-    × (itemOf (rr ++ p3) 0 ≡ Found.Item (record { place = 8; item = Item.Settings p3-settings }))
-    × (itemCount p5 ≡ Count.Refused (refusal badFirst 0))
-    × (itemCount (rr ++ p5 ++ p3) ≡ Count.Items 2)
-    × (itemOf (rr ++ p5 ++ p3) 1 ≡ Found.Item (record { place = 48; item = Item.Settings p3-settings }))
-unfolding itemCount itemOf pick datagramCheck datagramItems walk walking packetCheck packetItems headCheck paddingIsBad content kindOf blockCheck blockItems reportAt settingsAt be16 be32 be64 rr p5 p5-report p3 p3-settings
-vectors = (refl, refl, refl, refl, refl, refl, refl, refl)
+    (reduced : Bool)
+    → (itemCount reduced [] ≡ Count.Refused (refusal badLength 0))
+    × (itemCount reduced rr ≡ Count.Items 0)
+    × (itemOf reduced rr 0 ≡ Found.Refused (refusal noSuchItem 0))
+    × (itemOf reduced (rr ++ p5) 0 ≡ Found.Item (record { place = 16; item = Item.Report p5-report }))
+    × (itemOf reduced (rr ++ p3) 0 ≡ Found.Item (record { place = 8; item = Item.Settings p3-settings }))
+    × (itemCount reduced (rr ++ p5 ++ p3) ≡ Count.Items 2)
+    × (itemOf reduced (rr ++ p5 ++ p3) 1 ≡ Found.Item (record { place = 48; item = Item.Settings p3-settings }))
+    × (itemCount reduced padded-bye ≡ Count.Refused (refusal badPadding 0))
+    × (itemCount false p5 ≡ Count.Refused (refusal badFirst 0))
+    × (itemOf true p5 0 ≡ Found.Item (record { place = 8; item = Item.Report p5-report }))
+    × (itemOf true (p3 ++ p5) 0 ≡ Found.Item (record { place = 0; item = Item.Settings p3-settings }))
+    × (itemOf true (p5 ++ padded-bye) 1 ≡ Found.Item (record { place = 44; item = Item.Farewell 10 }))
+unfolding itemCount itemOf pick datagramCheck datagramItems walk walking packetCheck packetItems headCheck paddingIsBad content kindOf firstIsBad blockCheck blockItems reportAt settingsAt be16 be32 be64 rr p5 p5-report p3 p3-settings padded-bye
+vectors reduced = (refl, refl, refl, refl, refl, refl, refl, refl, refl, refl, refl, refl)

@@ -1,7 +1,7 @@
--- What the public calls answer.
+-- What the public calls answer; `reduced` says whether reduced size was agreed.
 use Prim.Native.Nat.{ℕ}
 use mathlib.Core.List.{List}
-use mathlib.Core.Bool.{cond}
+use mathlib.Core.Bool.{Bool, cond}
 use lib.ListN.{length, getD}
 use lib.Dec.{ltb}
 use Rattle.idms.specs.declared.Item.{Item}
@@ -28,13 +28,13 @@ itemUnless passed items index = pick items index
 itemUnless (refused number place) items index = Found.Refused (refusal number place)
 
 -- the item at an index, or the datagram's refusal, which answers at any index, or 9
-unfoldable pub itemOf : List ℕ → ℕ → Found
-itemOf d index = itemUnless (datagramCheck d) (datagramItems d) index
+unfoldable pub itemOf : Bool → List ℕ → ℕ → Found
+itemOf reduced d index = itemUnless (datagramCheck reduced d) (datagramItems d) index
 
 -- a cursor before the first item, and how many items there are, or the datagram's refusal
 abbrev pub cursorUnless : Check → ℕ → Opened
 cursorUnless passed items = Opened.Items items start
 cursorUnless (refused number place) items = Opened.Refused (refusal number place)
 
-unfoldable pub cursorOn : List ℕ → Opened
-cursorOn d = cursorUnless (datagramCheck d) (length (datagramItems d))
+unfoldable pub cursorOn : Bool → List ℕ → Opened
+cursorOn reduced d = cursorUnless (datagramCheck reduced d) (length (datagramItems d))

@@ -39,11 +39,11 @@ filledUnless (refused number place) items rows = rows
 filledUnless passed items rows =
     cond (tooShort (length items) rows) rows (rowsOf items ++ drop (10 * length items) rows)
 
-unfoldable pub rowsAnswer : List ℕ → List ℕ → Count
-rowsAnswer d rows = rowsUnless (datagramCheck d) (datagramItems d) rows
+unfoldable pub rowsAnswer : Bool → List ℕ → List ℕ → Count
+rowsAnswer reduced d rows = rowsUnless (datagramCheck reduced d) (datagramItems d) rows
 
-unfoldable pub rowsAfter : List ℕ → List ℕ → List ℕ
-rowsAfter d rows = filledUnless (datagramCheck d) (datagramItems d) rows
+unfoldable pub rowsAfter : Bool → List ℕ → List ℕ → List ℕ
+rowsAfter reduced d rows = filledUnless (datagramCheck reduced d) (datagramItems d) rows
 
 -- ---- for the functions that put them
 

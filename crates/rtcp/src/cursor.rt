@@ -13,6 +13,7 @@ use packet::packet_at;
 use packet::settings_at;
 use packet::source_at;
 ghost use mathlib.Core.Path.{_≡_};
+ghost use mathlib.Core.Bool.{true};
 ghost use Prim.Native.Nat.{_+_, _<_};
 ghost use lib.ListN.{length, getD};
 ghost use Rattle.packet.specs.Checks.{passed};
@@ -132,6 +133,7 @@ fn stepped(d: &[u8], c: State) -> Advance
 
 // The next item of the datagram that the cursor was opened on and the cursor behind it, or the end. With another
 // datagram it gives what can be read there, which may be an item of one that is refused: not all checks are made again.
+// So it need not be told whether reduced size was agreed: what depends on that was checked when the cursor was opened.
 pub fn next_item(d: &[u8], from: Cursor) -> Step
     ensures { λ r. ⌜ r ≡ nextOf (now (d .entry)) from ⌝ }
 {
@@ -151,11 +153,11 @@ pub fn next_item(d: &[u8], from: Cursor) -> Step
     }
 }
 
-// Checks a datagram, and puts a cursor before its first item.
-pub fn open_datagram(d: &[u8]) -> Opened
-    ensures { λ r. ⌜ r ≡ cursorOn (now (d .entry)) ⌝ }
+// Checks a datagram, and puts a cursor before its first item. `reduced` says whether reduced size was agreed.
+pub fn open_datagram(d: &[u8], reduced: bool) -> Opened
+    ensures { λ r. ⌜ r ≡ cursorOn reduced (now (d .entry)) ⌝ }
 {
-    match count_items(d) {
+    match count_items(d, reduced) {
         Count::Refused(r) => Opened::Refused(r),
         Count::Items(n) => Opened::Items(
             n,
@@ -166,9 +168,9 @@ pub fn open_datagram(d: &[u8]) -> Opened
     }
 }
 
-// The item at an index below the count of a datagram that is not refused.
+// The item at an index below the count of a datagram that passes every check but perhaps 4, which looks at no item.
 pub(crate) fn nth_item(d: &[u8], index: usize) -> Placed
-    requires { ⌜ (datagramCheck (now d) ≡ passed) × (index < length (datagramItems (now d))) ⌝ }
+    requires { ⌜ (datagramCheck true (now d) ≡ passed) × (index < length (datagramItems (now d))) ⌝ }
     ensures { λ r. ⌜ r ≡ getD (datagramItems (now (d .entry))) index nothing ⌝ }
 {
     let mut c = Cursor {

@@ -8,12 +8,12 @@ use refusals::NO_SUCH_ITEM;
 ghost use mathlib.Core.Path.{_≡_};
 ghost use Rattle.rtcp.specs.Answers.{itemOf};
 
-// The item at an index from 0, or the datagram's refusal, or 9 where there is no such item. It passes over the datagram
-// twice.
-pub fn item_at(d: &[u8], index: usize) -> Found
-    ensures { λ r. ⌜ r ≡ itemOf (now (d .entry)) index ⌝ }
+// The item at an index from 0, or the datagram's refusal, or 9 where there is no such item. `reduced` says whether
+// reduced size was agreed. It passes over the datagram twice.
+pub fn item_at(d: &[u8], reduced: bool, index: usize) -> Found
+    ensures { λ r. ⌜ r ≡ itemOf reduced (now (d .entry)) index ⌝ }
 {
-    match count_items(d) {
+    match count_items(d, reduced) {
         Count::Refused(r) => Found::Refused(r),
         Count::Items(n) => {
             if n <= index {

@@ -17,13 +17,14 @@ use packet::settings_at;
 use packet::source_at;
 use refusals::SHORT_BUFFER;
 ghost use mathlib.Core.Path.{_≡_};
+ghost use mathlib.Core.Bool.{true};
 ghost use Prim.Native.Nat.{_+_, _-_, _*_, _%_, _≤_};
 ghost use lib.ListN.{length};
 ghost use lib.Seq.{paste};
 ghost use Rattle.idms.specs.Rows.{rowOf};
 ghost use Rattle.packet.specs.Checks.{passed};
-ghost use Rattle.packet.specs.Contents.{contents};
-ghost use Rattle.datagram.specs.Datagram.{sourceItems, blocksCheck, blocksItems, packetCheck, packetItems};
+ghost use Rattle.packet.specs.Contents.{contents, readable};
+ghost use Rattle.datagram.specs.Datagram.{sourceItems, blocksCheck, blocksItems, partsCheck, packetItems};
 ghost use Rattle.datagram.specs.Datagram.{datagramCheck, datagramItems};
 ghost use Rattle.rtcp.specs.Rows.{put, HasRoom, ArePut, behind, rowsAnswer, rowsAfter};
 
@@ -120,9 +121,10 @@ fn fill_blocks(
     cell
 }
 
-// Puts the rows of the packet at p, which has passed and holds x, and answers the cell behind them.
+// Puts the rows of the packet at p, which is readable and holds x, whose parts have passed, and answers the cell behind
+// them.
 fn fill_packet(d: &[u8], rows: &mut [u64], at: usize, p: usize, x: Packet) -> usize
-    requires { ⌜ (x ≡ contents (now d) p) × (packetCheck (now d) p ≡ passed)
+    requires { ⌜ (x ≡ contents (now d) p) × (readable (now d) p ≡ true) × (partsCheck (now d) x ≡ passed)
         × HasRoom (now rows) at (packetItems (now d) p) ⌝ }
     ensures { λ r. ⌜ ArePut (now (rows .entry)) at (packetItems (now (d .entry)) p) r (now (rows .exit)) ⌝ }
 {
@@ -131,7 +133,7 @@ fn fill_packet(d: &[u8], rows: &mut [u64], at: usize, p: usize, x: Packet) -> us
         Packet::Sources(first, stop, _) => fill_sources(d, rows, at, first, stop),
         Packet::Blocks(sender, first, stop, _) => fill_blocks(d, rows, at, sender, first, stop),
         Packet::Settings(_) => match settings_at(d, p) {
-            // Never reached: the packet has passed.
+            // Never reached: the packet is readable.
             PacketSettings::Outside => at,
             PacketSettings::Fields(s) => {
                 put_row(
@@ -162,9 +164,10 @@ fn next_place(x: Packet) -> usize
     }
 }
 
-// Puts the rows of a datagram's n items at the front, and walks no further than the last of them.
+// Puts the rows of a datagram's n items at the front, and walks no further than the last of them. The datagram passes
+// every check but perhaps 4, which looks at no item.
 fn fill_rows(d: &[u8], rows: &mut [u64], n: usize)
-    requires { ⌜ (datagramCheck (now d) ≡ passed)
+    requires { ⌜ (datagramCheck true (now d) ≡ passed)
         × (n ≡ length (datagramItems (now d))) × (10 * n ≤ length (now rows)) ⌝ }
     ensures { λ _. ⌜ now (rows .exit) ≡ put (now (rows .entry)) 0 (datagramItems (now (d .entry))) ⌝ }
 {
@@ -178,12 +181,13 @@ fn fill_rows(d: &[u8], rows: &mut [u64], n: usize)
     }
 }
 
-// Checks first and fills then: after any refusal, or where the array is too short, it is as before.
-pub fn read_items(d: &[u8], rows: &mut [u64]) -> Count
-    ensures { λ r. ⌜ (r ≡ rowsAnswer (now (d .entry)) (now (rows .entry)))
-        × (now (rows .exit) ≡ rowsAfter (now (d .entry)) (now (rows .entry))) ⌝ }
+// Checks first and fills then: after any refusal, or where the array is too short, it is as before. `reduced` says
+// whether reduced size was agreed.
+pub fn read_items(d: &[u8], reduced: bool, rows: &mut [u64]) -> Count
+    ensures { λ r. ⌜ (r ≡ rowsAnswer reduced (now (d .entry)) (now (rows .entry)))
+        × (now (rows .exit) ≡ rowsAfter reduced (now (d .entry)) (now (rows .entry))) ⌝ }
 {
-    match count_items(d) {
+    match count_items(d, reduced) {
         Count::Refused(r) => Count::Refused(r),
         Count::Items(n) => {
             if rows.len() < 10 * n {

@@ -11,7 +11,8 @@ use rtcp::Cursor;
 use rtcp::Opened;
 use rtcp::Step;
 
-// More turns than a datagram has items: each item takes a word, after a first packet of two, and there are 512 at most.
+// More turns than a datagram has items: each item takes a word, of which there are 512 at most, and a packet's first
+// word is none.
 const TURNS: usize = 512;
 
 fn print_number(label: &[u8], n: u64) {
@@ -114,9 +115,9 @@ fn print_from(d: &[u8], start: Cursor) {
     }
 }
 
-// A datagram's refusal, or how many items it has and a line for each.
-pub(crate) fn print_datagram(d: &[u8]) {
-    match rtcp::open_datagram(d) {
+// A datagram's refusal, or how many items it has and a line for each. `reduced` says whether reduced size was agreed.
+pub(crate) fn print_datagram(d: &[u8], reduced: bool) {
+    match rtcp::open_datagram(d, reduced) {
         Opened::Refused(r) => print_refusal(r),
         Opened::Items(n, start) => {
             print_count(n);

@@ -4,6 +4,7 @@
 // A record, its numbers big-endian:
 //   1 byte    the length of the case's name
 //             the name
+//   1 byte    1 where reduced size was agreed, 0 where it was not
 //   1 byte    1 where the case asks for the item at an index, 0 where it asks for all items
 //   8 bytes   the index, or 0
 //   2 bytes   the length of the datagram
@@ -42,11 +43,11 @@ fn read64(s: &[u8], at: usize) -> u64
 }
 
 // The answer at an index, which is printed above it.
-fn print_indexed(d: &[u8], index: u64) {
+fn print_indexed(d: &[u8], reduced: bool, index: u64) {
     io::write_all(STDOUT_FILENO, b"index ");
     io::print_decimal(STDOUT_FILENO, index);
     io::write_all(STDOUT_FILENO, b"\n");
-    print_found(rtcp::item_at(d, index as usize));
+    print_found(rtcp::item_at(d, reduced, index as usize));
 }
 
 fn print_name(name: &[u8]) {
@@ -55,24 +56,36 @@ fn print_name(name: &[u8]) {
     io::write_all(STDOUT_FILENO, b"\n");
 }
 
+// Whether reduced size was agreed.
+fn print_size(reduced: bool) {
+    if reduced {
+        io::write_all(STDOUT_FILENO, b"reduced size agreed\n");
+    } else {
+        io::write_all(STDOUT_FILENO, b"reduced size not agreed\n");
+    }
+}
+
 // Runs the case whose record is at a place, and answers where the next record is.
 fn run_case(s: &[u8], at: usize) -> usize
     requires { ⌜ (at < length (now s)) × (length (now s) ≤ 65536) ⌝ }
     ensures { λ r. ⌜ at < r ⌝ }
 {
     let name = at + 1;
-    let flag = name + byte_at(s, at) as usize;
+    let size = name + byte_at(s, at) as usize;
+    let flag = size + 1;
     let datagram = flag + 11;
     let next = datagram + read16(s, flag + 9);
     if s.len() < next {
         io::write_all(STDOUT_FILENO, b"record cut off\n");
         return s.len();
     }
-    print_name(&s[name..flag]);
+    print_name(&s[name..size]);
+    let reduced = byte_at(s, size) == 1;
+    print_size(reduced);
     if byte_at(s, flag) == 0 {
-        print_datagram(&s[datagram..next]);
+        print_datagram(&s[datagram..next], reduced);
     } else {
-        print_indexed(&s[datagram..next], read64(s, flag + 1));
+        print_indexed(&s[datagram..next], reduced, read64(s, flag + 1));
     }
     next
 }

@@ -133,9 +133,9 @@ record ReadReport (d : List ℕ) (place : ℕ) (r : Report) : Type 0 where
   group : reportIsUnwritable r ≡ eqb (r .group) 4294967295
 
 read-report :
-    (d : List ℕ) (index place : ℕ) (r : Report) → AreBytes d
-    → itemOf d index ≡ Found.Item (record { place = place; item = Item.Report r }) → ReadReport d place r
-read-report d index place r h e = take (item-read d index _ e) refl
+    (reduced : Bool) (d : List ℕ) (index place : ℕ) (r : Report) → AreBytes d
+    → itemOf reduced d index ≡ Found.Item (record { place = place; item = Item.Report r }) → ReadReport d place r
+read-report reduced d index place r h e = take (item-read reduced d index _ e) refl
   where
     take : {x : Placed} → ReadFrom d x → x ≡ record { place = place; item = Item.Report r } → ReadReport d place r
     take (report sender at t w l) e =
@@ -157,23 +157,24 @@ read-report d index place r h e = take (item-read d index _ e) refl
     take (farewell at source) e =
         let z : _≡_ {A = ℕ} 0 1 = cc (ap (λ (y : Placed). y .item) e) in absurd (omega arith)
 
--- A report that was read can be written back exactly if its group is not 4,294,967,295.
+-- A report that was read, whether or not reduced size was agreed, can be written back exactly if its group is not
+-- 4,294,967,295.
 pub report-writable :
-    (d : List ℕ) (index place : ℕ) (r : Report) → AreBytes d
-    → itemOf d index ≡ Found.Item (record { place = place; item = Item.Report r })
+    (reduced : Bool) (d : List ℕ) (index place : ℕ) (r : Report) → AreBytes d
+    → itemOf reduced d index ≡ Found.Item (record { place = place; item = Item.Report r })
     → reportIsUnwritable r ≡ eqb (r .group) 4294967295
-report-writable d index place r h e = read-report d index place r h e .group
+report-writable reduced d index place r h e = read-report reduced d index place r h e .group
 
 -- Then, in every buffer of 40 bytes or more, the writer answers that it wrote 40 bytes, and the block among them is the
 -- datagram's own 8 words at the item's place, cleared.
 pub report-read-write :
-    (d buf : List ℕ) (index place : ℕ) (r : Report) → AreBytes d
-    → itemOf d index ≡ Found.Item (record { place = place; item = Item.Report r })
+    (reduced : Bool) (d buf : List ℕ) (index place : ℕ) (r : Report) → AreBytes d
+    → itemOf reduced d index ≡ Found.Item (record { place = place; item = Item.Report r })
     → (r .group ≡ 4294967295 → ⊥) → 40 ≤ length buf
     → (written (reportMessage r) buf ≡ Written.Bytes 40)
     × (part (buffer (reportMessage r) buf) 8 32 ≡ clearedReport d place)
-report-read-write d buf index place r h e g l =
-    let known : ReadReport d place r = read-report d index place r h e in
+report-read-write reduced d buf index place r h e g l =
+    let known : ReadReport d place r = read-report reduced d index place r h e in
     rw (known .group, ne-eqb (r .group) 4294967295 g, le-ltb (length buf) 40 l) (refl, known .block)
 
 -- ---- the settings
@@ -226,13 +227,13 @@ module _
 -- For settings that were read and may be written, in every buffer of 36 bytes or more: the writer answers that it wrote
 -- 36 bytes, and they are the packet's own at the item's place, cleared.
 pub settings-read-write :
-    (d buf : List ℕ) (index place : ℕ) (s : Settings) → AreBytes d
-    → itemOf d index ≡ Found.Item (record { place = place; item = Item.Settings s })
+    (reduced : Bool) (d buf : List ℕ) (index place : ℕ) (s : Settings) → AreBytes d
+    → itemOf reduced d index ≡ Found.Item (record { place = place; item = Item.Settings s })
     → (s .group ≡ 4294967295 → ⊥) → 36 ≤ length buf
     → (written (settingsMessage s) buf ≡ Written.Bytes 36)
     × (take 36 (buffer (settingsMessage s) buf) ≡ clearedSettings d place)
-settings-read-write d buf index place s h e g l =
-    rw (ne-eqb (s .group) 4294967295 g, le-ltb (length buf) 36 l) (refl, found (item-read d index _ e) refl)
+settings-read-write reduced d buf index place s h e g l =
+    rw (ne-eqb (s .group) 4294967295 g, le-ltb (length buf) 36 l) (refl, found (item-read reduced d index _ e) refl)
   where
     found :
         {x : Placed} → ReadFrom d x → x ≡ record { place = place; item = Item.Settings s }

@@ -1,7 +1,7 @@
 -- Demand 2, first half: what a writer leaves in the buffer reads back as the same fields. The datagram is written out,
 -- so that the walk over it computes; what is left is that four bytes spell their word.
 use Prim.Native.Nat.{ℕ, _+_, _*_, _/_, _%_, _^_, _≤_}
-use mathlib.Core.Path.{_≡_, refl, sym, ap, _∙_}
+use mathlib.Core.Path.{_≡_, refl, sym, ap}
 use mathlib.Core.List.{List}
 use mathlib.Core.Bool.{Bool, true, false, cond}
 use lib.ListN.{length, take}
@@ -12,10 +12,9 @@ use Rattle.buffer.specs.Buffer.{written, buffer}
 use Rattle.idms.specs.declared.Report.{Report}
 use Rattle.idms.specs.declared.Settings.{Settings}
 use Rattle.idms.specs.declared.Item.{Item}
-use Rattle.idms.specs.declared.Found.{Found}
 use Rattle.packet.specs.Bytes.{be16, be32, be64}
 use Rattle.datagram.specs.Walk.{walking, walk}
-use Rattle.packet.specs.Packet.{paddingIsBad, content, kindOf, headCheck}
+use Rattle.packet.specs.Packet.{paddingIsBad, content, kindOf, firstIsBad, headCheck}
 use Rattle.packet.specs.Report.{blockCheck, reportAt, blockItems}
 use Rattle.packet.specs.Settings.{settingsAt}
 use Rattle.datagram.specs.Datagram.{packetCheck, packetItems, datagramCheck, datagramItems}
@@ -23,7 +22,7 @@ use Rattle.datagram.specs.Answers.{itemCount}
 use Rattle.rtcp.specs.Answers.{itemOf, pick}
 use Rattle.writer.specs.Messages.{bytesOf, reportWords, settingsWords}
 use Rattle.writer.specs.Messages.{reportIsUnwritable, reportMessage, settingsMessage}
-use Rattle.writer.specs.RoundTrip.{behindRR, GivesOne, ReportFits, SettingsFit}
+use Rattle.writer.specs.RoundTrip.{ReadBack, ReportFits, SettingsFit}
 use Rattle.writer.proofs.Laws.Messages.{writable, writable-presented}
 use Rattle.writer.proofs.Laws.Words.{spelt, spelt-word, spelt-halves}
 
@@ -57,13 +56,13 @@ reportIn r p =
     }
 
 walk-report :
-    (r : Report) (p : Bool) (ssrc : ℕ)
-    → GivesOne (behindRR ssrc (bytesOf (reportWords (reportIn r p))))
-    (record { place = 16; item = Item.Report (reportBack r p) })
+    (r : Report) (p : Bool) → ReadBack (bytesOf (reportWords (reportIn r p))) 8 (Item.Report (reportBack r p))
 unfolding reportIn reportBack itemCount itemOf pick datagramCheck datagramItems walk walking packetCheck packetItems
-    headCheck paddingIsBad content kindOf blockCheck blockItems reportAt be16 be32 be64
-walk-report r true ssrc = (refl, refl)
-walk-report r false ssrc = (refl, refl)
+    headCheck paddingIsBad content kindOf firstIsBad blockCheck blockItems reportAt be16 be32 be64
+walk-report r true =
+    record { behind-an-rr = λ reduced ssrc. (refl, refl); alone = (refl, refl); alone-refused = refl }
+walk-report r false =
+    record { behind-an-rr = λ reduced ssrc. (refl, refl); alone = (refl, refl); alone-refused = refl }
 
 same-report : (r : Report) → ReportFits r → reportIsUnwritable r ≡ false → reportBack r (r .p) ≡ r
 unfolding reportBack
@@ -86,18 +85,17 @@ same-report r fits h =
     shown true e = spelt-word (r .presented) (fits .presented)
     shown false e = sym (writable-presented r h e)
 
--- For all fields that may be written, in every buffer of 40 bytes or more, and whatever the RR's sender: the writer
--- answers that it wrote 40 bytes, and the buffer's first 40 give exactly one item, with these fields.
+-- For all fields that may be written, in every buffer of 40 bytes or more: the writer answers that it wrote 40 bytes,
+-- and the buffer's first 40 give exactly one item, with these fields: behind an RR of any sender whether or not reduced
+-- size was agreed, and alone where it was.
 pub report-write-read :
-    (r : Report) (buf : List ℕ) (ssrc : ℕ) → ReportFits r → reportIsUnwritable r ≡ false → 40 ≤ length buf
+    (r : Report) (buf : List ℕ) → ReportFits r → reportIsUnwritable r ≡ false → 40 ≤ length buf
     → (written (reportMessage r) buf ≡ Written.Bytes 40)
-    × GivesOne (behindRR ssrc (take 40 (buffer (reportMessage r) buf)))
-    (record { place = 16; item = Item.Report r })
+    × ReadBack (take 40 (buffer (reportMessage r) buf)) 8 (Item.Report r)
 unfolding reportIn
-report-write-read r buf ssrc fits h l =
-    let walked : _ = walk-report r (r .p) ssrc in
-    let found : Report → Found = λ x. Found.Item (record { place = 16; item = Item.Report x }) in
-    rw (h, le-ltb (length buf) 40 l) (refl, (walked .0, walked .1 ∙ ap found (same-report r fits h)))
+report-write-read r buf fits h l =
+    let same : Item.Report (reportBack r (r .p)) ≡ Item.Report r = ap Item.Report (same-report r fits h) in
+    rw (h, le-ltb (length buf) 40 l) (refl, rw same at (walk-report r (r .p)))
 
 -- ---- the settings
 
@@ -112,12 +110,11 @@ settingsBack s =
       presented = spelt (s .presented / 2 ^ 32) * 2 ^ 32 + spelt (s .presented % 2 ^ 32);
     }
 
-walk-settings :
-    (s : Settings) (ssrc : ℕ)
-    → GivesOne (behindRR ssrc (bytesOf (settingsWords s))) (record { place = 8; item = Item.Settings (settingsBack s) })
+walk-settings : (s : Settings) → ReadBack (bytesOf (settingsWords s)) 0 (Item.Settings (settingsBack s))
 unfolding settingsBack itemCount itemOf pick datagramCheck datagramItems walk walking packetCheck packetItems
-    headCheck paddingIsBad content kindOf settingsAt be16 be32 be64
-walk-settings s ssrc = (refl, refl)
+    headCheck paddingIsBad content kindOf firstIsBad settingsAt be16 be32 be64
+walk-settings s =
+    record { behind-an-rr = λ reduced ssrc. (refl, refl); alone = (refl, refl); alone-refused = refl }
 
 same-settings : (s : Settings) → SettingsFit s → settingsBack s ≡ s
 unfolding settingsBack
@@ -133,12 +130,9 @@ same-settings s fits =
 
 -- The same of settings: 36 bytes, for every group but 4,294,967,295.
 pub settings-write-read :
-    (s : Settings) (buf : List ℕ) (ssrc : ℕ) → SettingsFit s → (s .group ≡ 4294967295 → ⊥) → 36 ≤ length buf
+    (s : Settings) (buf : List ℕ) → SettingsFit s → (s .group ≡ 4294967295 → ⊥) → 36 ≤ length buf
     → (written (settingsMessage s) buf ≡ Written.Bytes 36)
-    × GivesOne (behindRR ssrc (take 36 (buffer (settingsMessage s) buf)))
-    (record { place = 8; item = Item.Settings s })
-settings-write-read s buf ssrc fits g l =
-    let walked : _ = walk-settings s ssrc in
-    let found : Settings → Found = λ x. Found.Item (record { place = 8; item = Item.Settings x }) in
-    rw (ne-eqb (s .group) 4294967295 g, le-ltb (length buf) 36 l)
-    (refl, (walked .0, walked .1 ∙ ap found (same-settings s fits)))
+    × ReadBack (take 36 (buffer (settingsMessage s) buf)) 0 (Item.Settings s)
+settings-write-read s buf fits g l =
+    let same : Item.Settings (settingsBack s) ≡ Item.Settings s = ap Item.Settings (same-settings s fits) in
+    rw (ne-eqb (s .group) 4294967295 g, le-ltb (length buf) 36 l) (refl, rw same at (walk-settings s))

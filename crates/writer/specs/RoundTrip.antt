@@ -3,16 +3,18 @@
 use Prim.Native.Nat.{ℕ, _+_, _*_, _/_, _%_, _^_, _<_}
 use mathlib.Core.Path.{_≡_}
 use mathlib.Core.List.{List, [], _∷_, _++_}
-use mathlib.Core.Bool.{cond}
+use mathlib.Core.Bool.{Bool, true, false, cond}
 use lib.ListN.{take, drop}
 use Rattle.idms.specs.declared.Report.{Report}
 use Rattle.idms.specs.declared.Settings.{Settings}
+use Rattle.idms.specs.declared.Item.{Item}
 use Rattle.idms.specs.declared.Placed.{Placed}
 use Rattle.idms.specs.declared.Found.{Found}
+use Rattle.refusals.specs.Refusals.{badFirst}
 use Rattle.datagram.specs.declared.Count.{Count}
 use Rattle.packet.specs.Bytes.{byte}
 use Rattle.packet.specs.Report.{blockP}
-use Rattle.datagram.specs.Answers.{itemCount}
+use Rattle.datagram.specs.Answers.{refusal, itemCount}
 use Rattle.rtcp.specs.Answers.{itemOf}
 use Rattle.writer.specs.Messages.{bytesOf}
 
@@ -20,9 +22,17 @@ use Rattle.writer.specs.Messages.{bytesOf}
 abbrev pub behindRR : ℕ → List ℕ → List ℕ
 behindRR ssrc bytes = bytesOf (0x80C90001 ∷ ssrc ∷ []) ++ bytes
 
--- exactly one item is read from a datagram, and it is this one
-abbrev pub GivesOne : List ℕ → Placed → Type 0
-GivesOne d x = (itemCount d ≡ Count.Items 1) × (itemOf d 0 ≡ Found.Item x)
+-- exactly one item is read from a datagram, and it is this one; `reduced` says whether reduced size was agreed
+abbrev pub GivesOne : Bool → List ℕ → Placed → Type 0
+GivesOne reduced d x = (itemCount reduced d ≡ Count.Items 1) × (itemOf reduced d 0 ≡ Found.Item x)
+
+-- What is read of a packet that a writer wrote: one item, `offset` bytes behind the packet's start. Behind the RR it is
+-- read whether or not reduced size was agreed; alone it is read where that was agreed, and else refused with 4.
+pub record ReadBack (bytes : List ℕ) (offset : ℕ) (x : Item) : Type 0 where
+  pub behind-an-rr :
+      (reduced : Bool) (ssrc : ℕ) → GivesOne reduced (behindRR ssrc bytes) (record { place = 8 + offset; item = x })
+  pub alone : GivesOne true bytes (record { place = offset; item = x })
+  pub alone-refused : itemCount false bytes ≡ Count.Refused (refusal badFirst 0)
 
 -- the ranges of the fields' types
 pub record ReportFits (r : Report) : Type 0 where

@@ -2,21 +2,26 @@
 use Prim.Native.Nat.{ℕ, _+_, _*_, _≤_, _<_}
 use mathlib.Core.Path.{_≡_, sym, ap, _∙_}
 use mathlib.Core.List.{List}
+use mathlib.Core.Bool.{Bool}
 use lib.ListN.{length}
 use native.Mathlib.Omega.{arith}
 use Rattle.idms.specs.declared.Placed.{Placed}
+use Rattle.idms.specs.declared.Refusal.{Refusal}
 use Rattle.packet.specs.declared.header.Head.{Head}
+use Rattle.packet.specs.declared.header.Entry.{Entry}
 use Rattle.packet.specs.declared.block.Block.{Block}
-use Rattle.packet.specs.Checks.{refused}
+use Rattle.packet.specs.Checks.{passed, refused}
 use Rattle.packet.specs.Packet.{size}
 use Rattle.packet.specs.Report.{blockSize, blockCheck, blockItems}
-use Rattle.packet.specs.Answers.{headOf, blockIs}
+use Rattle.packet.specs.Contents.{contents}
+use Rattle.packet.specs.Answers.{entry, blockIs}
+use Rattle.packet.proofs.Laws.Packet.{entry-passed, entry-refused}
 use Rattle.packet.proofs.Laws.Blocks.{met-report, met-skipped, met-refused, items-none, items-one}
 use Rattle.datagram.specs.declared.Count.{Count}
-use Rattle.datagram.specs.Datagram.{packetCheck, packetItems}
-use Rattle.datagram.specs.Answers.{refusal, packetCount}
-use Rattle.datagram.proofs.Laws.Walk.{tally, tally-refused, tally-part, count-items}
-use Rattle.datagram.proofs.Laws.Datagram.{packets-roomy}
+use Rattle.datagram.specs.Datagram.{partsCheck, packetCheck, packetItems}
+use Rattle.datagram.specs.Answers.{refusal, partsCount}
+use Rattle.datagram.proofs.Laws.Walk.{tally, tally-refused, tally-part, count-items, count-refused}
+use Rattle.datagram.proofs.Laws.Datagram.{check-refused, check-of, packets-roomy}
 
 -- ---- blocks
 
@@ -67,35 +72,55 @@ module _ (d : List ℕ) (sender stop n at : ℕ) (here : at < stop) where
 -- ---- packets
 
 -- the answer at a packet, with n items counted before it
-abbrev pub packetsLeft : List ℕ → ℕ → ℕ → Count
-packetsLeft d n p = tally (packetCheck d) (packetItems d) (size d) (length d) n p
+abbrev pub packetsLeft : Bool → List ℕ → ℕ → ℕ → Count
+packetsLeft reduced d n p = tally (packetCheck reduced d) (packetItems d) (size d) (length d) n p
 
-pub record PacketCounted (d : List ℕ) (n p items bytes : ℕ) : Type 0 where
+pub record PacketCounted (reduced : Bool) (d : List ℕ) (n p items bytes : ℕ) : Type 0 where
   pub inside : p + bytes ≤ length d
   pub whole : 4 ≤ bytes
   pub few : 4 * items ≤ bytes
-  pub rest : packetsLeft d n p ≡ packetsLeft d (n + items) (p + bytes)
+  pub rest : packetsLeft reduced d n p ≡ packetsLeft reduced d (n + items) (p + bytes)
 
-pub left-refused :
-    (d : List ℕ) (n p number place : ℕ) → p < length d → packetCheck d p ≡ refused number place
-    → packetsLeft d n p ≡ Count.Refused (refusal number place)
-left-refused d n p number place here e =
-    tally-refused (packetCheck d) (packetItems d) (size d) (length d) (λ k. omega arith) n p number place here e
+module _ (reduced : Bool) (d : List ℕ) (n p : ℕ) (here : p < length d) where
+  left-refused :
+      (number place : ℕ) → packetCheck reduced d p ≡ refused number place
+      → packetsLeft reduced d n p ≡ Count.Refused (refusal number place)
+  left-refused number place e =
+      tally-refused (packetCheck reduced d) (packetItems d) (size d) (length d) (λ k. omega arith) n p number place here e
 
-pub packet-counted :
-    (d : List ℕ) (n p items : ℕ) (h : Head) → p < length d → h ≡ headOf d p → packetCount d p ≡ Count.Items items
-    → PacketCounted d n p items (h .bytes)
-packet-counted d n p items h here head e =
-    let m : _ = count-items (packetCheck d p) (length (packetItems d p)) items e in
-    let room : _ = packets-roomy d p here (m .0) in
-    let bytes : h .bytes ≡ size d p = ap (λ (x : Head). x .bytes) head in
-    record {
-      inside = omega (arith, room .0, bytes);
-      whole = omega (arith, bytes);
-      few = omega (arith, room .1, m .1, bytes);
-      rest =
-          tally-part (packetCheck d) (packetItems d) (size d) (length d) (λ k. omega arith) n p items (h .bytes) here
-          (m .0)
-          (m .1)
-          bytes;
-    }
+  pub head-refused :
+      (number : ℕ) → entry reduced d p ≡ Entry.Refused number
+      → packetsLeft reduced d n p ≡ Count.Refused (refusal number p)
+  head-refused number e =
+      left-refused number p (check-refused reduced d p number p (entry-refused reduced d p number e))
+
+  -- a packet whose header has passed
+  module _ (h : Head) (passes : entry reduced d p ≡ Entry.Head h) where
+    check-of-parts : packetCheck reduced d p ≡ partsCheck d (contents d p)
+    check-of-parts = check-of reduced d p (entry-passed reduced d p h passes .0)
+
+    pub parts-refused :
+        (r : Refusal) → partsCount d p ≡ Count.Refused r
+        → packetsLeft reduced d n p ≡ Count.Refused (refusal (r .number) (r .place))
+    parts-refused r e =
+        left-refused _ _
+        (check-of-parts ∙ count-refused (partsCheck d (contents d p)) (length (packetItems d p)) r e)
+
+    pub packet-counted :
+        (items : ℕ) → partsCount d p ≡ Count.Items items → PacketCounted reduced d n p items (h .bytes)
+    packet-counted items e =
+        let m : _ = count-items (partsCheck d (contents d p)) (length (packetItems d p)) items e in
+        let check : packetCheck reduced d p ≡ passed = check-of-parts ∙ m .0 in
+        let room : _ = packets-roomy reduced d p here check in
+        let bytes : h .bytes ≡ size d p = ap (λ (x : Head). x .bytes) (entry-passed reduced d p h passes .1) in
+        record {
+          inside = omega (arith, room .0, bytes);
+          whole = omega (arith, bytes);
+          few = omega (arith, room .1, m .1, bytes);
+          rest =
+              tally-part (packetCheck reduced d) (packetItems d) (size d) (length d) (λ k. omega arith) n p items (h .bytes)
+              here
+              check
+              (m .1)
+              bytes;
+        }

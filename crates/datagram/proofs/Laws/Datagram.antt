@@ -1,7 +1,8 @@
--- Laws of one packet's checks and items, by what it holds, once its header has passed.
+-- Laws of one packet's checks and items, by what it holds, once its header has passed; and of the packets in turn.
 use Prim.Native.Nat.{ℕ, suc, zero, _+_, _*_, _≤_, _<_}
 use mathlib.Core.Path.{_≡_, refl, sym, ap, _∙_}
 use mathlib.Core.List.{List, [], _∷_, _++_}
+use mathlib.Core.Bool.{Bool}
 use lib.ListN.{length}
 use native.Mathlib.Omega.{arith}
 use Rattle.idms.specs.declared.Placed.{Placed}
@@ -9,16 +10,16 @@ use Rattle.packet.specs.declared.kind.PacketType.{PacketType}
 use Rattle.packet.specs.declared.contents.Packet.{Packet}
 use Rattle.packet.specs.Checks.{passed, refused}
 use Rattle.packet.specs.Bytes.{be32}
-use Rattle.packet.specs.Packet.{count, kind, size, content, headCheck}
+use Rattle.packet.specs.Packet.{version, count, kind, size, content, headCheck}
 use Rattle.packet.specs.Report.{blockSize, blockCheck, blockItems, reports}
 use Rattle.packet.specs.Farewell.{farewellItem}
 use Rattle.packet.specs.Contents.{contentsOf, contents}
 use Rattle.packet.proofs.Laws.Checks.{both-pass}
-use Rattle.packet.proofs.Laws.Packet.{Readable, head-passed}
+use Rattle.packet.proofs.Laws.Packet.{Readable, head-version, head-passed}
 use Rattle.packet.proofs.Laws.Contents.{Holds, unread, sources, blocks, setting, holds}
 use Rattle.packet.proofs.Laws.Blocks.{block-inside, length-blockItems, one-or-none}
 use Rattle.datagram.specs.Datagram.{sourceItems, blocksCheck, blocksItems, partsCheck, packetCheck, partsItems, packetItems, packetsCheck, packetsItems}
-use Rattle.datagram.specs.Answers.{countUnless, packetCount}
+use Rattle.datagram.specs.Answers.{countUnless, partsCount}
 use Rattle.datagram.proofs.Laws.Walk.{walk-part, walk-end, check-each-part, gives-part, gives-end, Roomy, gives-bound}
 
 -- ---- sourceItems
@@ -64,30 +65,31 @@ blocks-end d sender stop at h = gives-end (blockCheck d stop) (blockItems d send
 
 -- ---- packetCheck and packetItems, by what the packet holds
 
-module _ (d : List ℕ) (p : ℕ) where
-  pub check-refused : (number place : ℕ) → headCheck d p ≡ refused number place → packetCheck d p ≡ refused number place
+module _ (reduced : Bool) (d : List ℕ) (p : ℕ) where
+  pub check-refused :
+      (number place : ℕ) → headCheck reduced d p ≡ refused number place → packetCheck reduced d p ≡ refused number place
   unfolding packetCheck
   check-refused number place h = rw h
 
-  module _ {x : Packet} (e : contents d p ≡ x) where
-    pub items-of : packetItems d p ≡ partsItems d p x
-    unfolding packetItems
-    items-of = ap (partsItems d p) e
+  pub check-of : headCheck reduced d p ≡ passed → packetCheck reduced d p ≡ partsCheck d (contents d p)
+  unfolding packetCheck
+  check-of h = rw h
 
-    module _ (h : headCheck d p ≡ passed) where
-      pub check-of : packetCheck d p ≡ partsCheck d x
-      unfolding packetCheck
-      check-of = rw h (ap (partsCheck d) e)
+  pub check-passed :
+      packetCheck reduced d p ≡ passed → (headCheck reduced d p ≡ passed) × (partsCheck d (contents d p) ≡ passed)
+  unfolding packetCheck
+  check-passed e = both-pass (headCheck reduced d p) (partsCheck d (contents d p)) e
 
-      pub count-of : packetCount d p ≡ countUnless (partsCheck d x) (length (partsItems d p x))
-      count-of = rw (check-of, items-of)
+pub items-of : (d : List ℕ) (p : ℕ) {x : Packet} → contents d p ≡ x → packetItems d p ≡ partsItems d p x
+unfolding packetItems
+items-of d p e = ap (partsItems d p) e
 
 -- the count of a packet by its type
 pub count-of-type :
-    (d : List ℕ) (p : ℕ) (t : PacketType) → headCheck d p ≡ passed → kind d p ≡ t
-    → packetCount d p
-    ≡ countUnless (partsCheck d (contentsOf d p t)) (length (partsItems d p (contentsOf d p t)))
-count-of-type d p t h e = count-of d p (ap (contentsOf d p) e) h
+    (d : List ℕ) (p : ℕ) (t : PacketType) → kind d p ≡ t
+    → partsCount d p ≡ countUnless (partsCheck d (contentsOf d p t)) (length (partsItems d p (contentsOf d p t)))
+unfolding packetItems
+count-of-type d p t e = ap (λ (x : Packet). countUnless (partsCheck d x) (length (partsItems d p x))) (ap (contentsOf d p) e)
 
 -- ---- an upper bound: no more items than words
 
@@ -95,19 +97,10 @@ blocks-roomy : (d : List ℕ) (sender stop : ℕ) → Roomy (blockCheck d stop) 
 blocks-roomy d sender stop at h e =
     (block-inside d stop at e .0, rw (length-blockItems d sender at) (omega (arith, one-or-none (reports d at))))
 
-pub head-of-packet : (d : List ℕ) (p : ℕ) → packetCheck d p ≡ passed → headCheck d p ≡ passed
-unfolding packetCheck
-head-of-packet d p e = both-pass (headCheck d p) _ e .0
-
-packet-room : (d : List ℕ) (p : ℕ) → packetCheck d p ≡ passed → 4 * length (packetItems d p) ≤ size d p
-packet-room d p e = go refl (holds d p known)
+packet-room :
+    (d : List ℕ) (p : ℕ) → Readable d p → partsCheck d (contents d p) ≡ passed → 4 * length (packetItems d p) ≤ size d p
+packet-room d p known e = go refl (holds d p known)
   where
-    head : headCheck d p ≡ passed
-    head = head-of-packet d p e
-
-    known : Readable d p
-    known = head-passed d p head
-
     go : {x : Packet} → contents d p ≡ x → Holds d p x → 4 * length (packetItems d p) ≤ size d p
     go f unread = rw (items-of d p f) (omega arith)
     go f (sources least l h) =
@@ -122,34 +115,41 @@ packet-room d p e = go refl (holds d p known)
               (λ k. omega arith)
               (blocks-roomy d (be32 d (p + 4)) (p + content d p))
               (p + 8)
-              (sym (check-of d p f head) ∙ e),
+              (sym (ap (partsCheck d) f) ∙ e),
         ))
     go f (setting t h) = rw (items-of d p f) (omega (arith, h, known .inside))
 
-pub packets-roomy : (d : List ℕ) → Roomy (packetCheck d) (packetItems d) (size d) (length d) (λ k. omega arith)
-packets-roomy d p h e = (head-passed d p (head-of-packet d p e) .fits, packet-room d p e)
+pub packets-roomy :
+    (reduced : Bool) (d : List ℕ) → Roomy (packetCheck reduced d) (packetItems d) (size d) (length d) (λ k. omega arith)
+packets-roomy reduced d p h e =
+    let both : _ = check-passed reduced d p e in
+    let known : Readable d p = head-passed reduced d p (both .0) in
+    (known .fits, packet-room d p known (both .1))
 
 -- ---- packetsCheck and packetsItems, at a packet of a datagram that has passed
 
-pub record PacketsTurn (d : List ℕ) (p : ℕ) : Type 0 where
-  pub check : packetCheck d p ≡ passed
-  pub head : headCheck d p ≡ passed
+pub record PacketsTurn (reduced : Bool) (d : List ℕ) (p : ℕ) : Type 0 where
+  pub version-two : version d p ≡ 2
   pub known : Readable d p
-  pub later : packetsCheck d (p + size d p) ≡ passed
+  pub parts : partsCheck d (contents d p) ≡ passed
+  pub later : packetsCheck reduced d (p + size d p) ≡ passed
   pub items : packetsItems d p ≡ packetItems d p ++ packetsItems d (p + size d p)
 
-pub packets-turn : (d : List ℕ) (p : ℕ) → p < length d → packetsCheck d p ≡ passed → PacketsTurn d p
-packets-turn d p h e =
+pub packets-turn :
+    (reduced : Bool) (d : List ℕ) (p : ℕ) → p < length d → packetsCheck reduced d p ≡ passed → PacketsTurn reduced d p
+packets-turn reduced d p h e =
     let both : _ =
-    both-pass (packetCheck d p) (packetsCheck d (p + size d p))
-    (sym (check-each-part (packetCheck d) (packetItems d) (size d) (length d) (λ k. omega arith) p h) ∙ e) in
+    both-pass (packetCheck reduced d p) (packetsCheck reduced d (p + size d p))
+    (sym (check-each-part (packetCheck reduced d) (packetItems d) (size d) (length d) (λ k. omega arith) p h) ∙ e) in
+    let here : _ = check-passed reduced d p (both .0) in
     record {
-      check = both .0;
-      head = head-of-packet d p (both .0);
-      known = head-passed d p (head-of-packet d p (both .0));
+      version-two = head-version reduced d p (here .0);
+      known = head-passed reduced d p (here .0);
+      parts = here .1;
       later = both .1;
-      items = gives-part (packetCheck d) (packetItems d) (size d) (length d) (λ k. omega arith) p h;
+      items = gives-part (packetCheck reduced d) (packetItems d) (size d) (length d) (λ k. omega arith) p h;
     }
 
 pub packets-end : (d : List ℕ) (p : ℕ) → length d ≤ p → packetsItems d p ≡ []
-packets-end d p h = gives-end (packetCheck d) (packetItems d) (size d) (length d) (λ k. omega arith) p h
+packets-end d p h =
+    walk-end (λ (k : ℕ) (later : List Placed). packetItems d k ++ later) [] (size d) (length d) (λ k. omega arith) p h

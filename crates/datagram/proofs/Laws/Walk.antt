@@ -14,7 +14,7 @@ use Rattle.datagram.specs.declared.Count.{Count}
 use Rattle.packet.specs.Checks.{Check, passed, refused, andThen}
 use Rattle.datagram.specs.Walk.{walking, walk, checkEach, gives}
 use Rattle.datagram.specs.Answers.{refusal, countUnless}
-use Rattle.packet.proofs.Laws.Checks.{both-pass}
+use Rattle.packet.proofs.Laws.Checks.{both-pass, Refuses, passed-refuses, andThen-refuses}
 
 -- ---- walk
 
@@ -66,6 +66,27 @@ module _ {R : Type 0} (join : ℕ → R → R) (none : R) (size : ℕ → ℕ) (
     pub walk-end : (place : ℕ) → stop ≤ place → walk join none size stop place ≡ none
     unfolding walk
     walk-end place h = walking-end (stop - place) place h
+
+-- ---- what holds of every part's refusals holds of the walk's
+
+pub check-each-refuses :
+    (P : ℕ → ℕ → Type 0) (check : ℕ → Check) (size : ℕ → ℕ) (stop place : ℕ) → ((p : ℕ) → Refuses P (check p))
+    → Refuses P (checkEach check size stop place)
+unfolding walk walking
+check-each-refuses P check size stop place f = go (stop - place) place
+  where
+    go :
+        (k place : ℕ)
+        → Refuses P (walking k (λ (p : ℕ) (later : Check). andThen (check p) later) passed size stop place)
+    go zero place = passed-refuses P
+    go (suc k) place = turn (ltb place stop) refl (go k (place + size place))
+      where
+        turn :
+            (t : Bool) → ltb place stop ≡ t
+            → Refuses P (walking k (λ (p : ℕ) (later : Check). andThen (check p) later) passed size stop (place + size place))
+            → Refuses P (walking (suc k) (λ (p : ℕ) (later : Check). andThen (check p) later) passed size stop place)
+        turn true t rest = rw (t, walking) (andThen-refuses P (check place) _ (f place) rest)
+        turn false t rest = rw (t, walking) (passed-refuses P)
 
 -- ---- checks and gives together: parts of at least four bytes an item have no more items than words
 

@@ -1,4 +1,4 @@
--- The count of a packet whose header has passed, by its type.
+-- The count of a readable packet, by its type.
 use Prim.Native.Nat.{_+_}
 use mathlib.Core.Path.{_≡_, sym, ap, _∙_}
 use native.Mathlib.Omega.{arith}
@@ -8,8 +8,7 @@ use Rattle.packet.specs.Packet.{count, kind}
 use Rattle.packet.specs.declared.header.Head.{Head}
 use Rattle.packet.specs.declared.kind.PacketType.{PacketType}
 use Rattle.datagram.proofs.Laws.Datagram.{length-sourceItems, count-of-type}
-use Rattle.packet.proofs.Laws.Contents.{type-holds, held-sources, held-blocks}
-use Rattle.packet.proofs.Laws.Packet.{head-passed}
+use Rattle.packet.proofs.Laws.Contents.{type-holds, held-sources, held-blocks, readable-packet}
 use Rattle.datagram.proofs.count_content.Statement.{statement}
 use Rattle.datagram.proofs.count_content.Tie as tie
 
@@ -32,7 +31,7 @@ count-blocks-requires c κs =
     let p = b .args .p in
     let t : kind d p ≡ PacketType.Xr (c .enum-told4 .given .0 .0) =
     sym (ap (λ (x : Head). x .kind) (b .pre .0)) ∙ c .enum-told4 .given .1 in
-    let h : _ = head-passed d p (b .pre .1) in
+    let h : _ = readable-packet d p (b .pre .1) in
     let m : _ = ap (λ (x : Head). x .content) (b .pre .0) in
     let w : _ = held-blocks d p _ _ _ _ (type-holds d p _ h t) in
     (omega (arith, m, w .2), omega (arith, m, h .inside, h .fits))
@@ -50,7 +49,7 @@ returns c =
     let p = b .args .p in
     let t : kind d p ≡ PacketType.Sr (c .enum-told .given .0 .0) =
     sym (ap (λ (x : Head). x .kind) (b .pre .0)) ∙ c .enum-told .given .1 in
-    sym (count-of-type d p _ (b .pre .1) t)
+    sym (count-of-type d p _ t)
 
 returns-2 : tie.Need-returns-2
 returns-2 c =
@@ -59,7 +58,7 @@ returns-2 c =
     let p = b .args .p in
     let t : kind d p ≡ PacketType.Rr (c .enum-told2 .given .0 .0) =
     sym (ap (λ (x : Head). x .kind) (b .pre .0)) ∙ c .enum-told2 .given .1 in
-    sym (count-of-type d p _ (b .pre .1) t)
+    sym (count-of-type d p _ t)
 
 returns-3 : tie.Need-returns-3
 returns-3 c =
@@ -68,10 +67,10 @@ returns-3 c =
     let p = b .args .p in
     let t : kind d p ≡ PacketType.Bye (c .enum-told3 .given .0 .0) =
     sym (ap (λ (x : Head). x .kind) (b .pre .0)) ∙ c .enum-told3 .given .1 in
-    let w : _ = held-sources d p _ _ _ (type-holds d p _ (head-passed d p (b .pre .1)) t) in
+    let w : _ = held-sources d p _ _ _ (type-holds d p _ (readable-packet d p (b .pre .1)) t) in
     ap (λ (x : Head). Count.Items (x .count)) (b .pre .0)
     ∙ sym
-    (count-of-type d p _ (b .pre .1) t
+    (count-of-type d p _ t
     ∙ ap Count.Items (length-sourceItems d (count d p) _ (p + 4) (omega (arith, w .1))))
 
 returns-4 : tie.Need-returns-4
@@ -83,7 +82,7 @@ returns-4 c =
     sym (ap (λ (x : Head). x .kind) (b .pre .0)) ∙ c .before .enum-told4 .given .1 in
     let m : _ = ap (λ (x : Head). x .content) (b .pre .0) in
     let r : _ = c .count-blocks .ensures in
-    (rw m at r) ∙ sym (count-of-type d p _ (b .pre .1) t)
+    (rw m at r) ∙ sym (count-of-type d p _ t)
 
 returns-5 : tie.Need-returns-5
 returns-5 c =
@@ -92,7 +91,7 @@ returns-5 c =
     let p = b .args .p in
     let t : kind d p ≡ PacketType.Settings (c .enum-told5 .given .0 .0) =
     sym (ap (λ (x : Head). x .kind) (b .pre .0)) ∙ c .enum-told5 .given .1 in
-    sym (count-of-type d p _ (b .pre .1) t)
+    sym (count-of-type d p _ t)
 
 returns-6 : tie.Need-returns-6
 returns-6 c =
@@ -100,7 +99,7 @@ returns-6 c =
     let d = b .args .d .now in
     let p = b .args .p in
     let t : kind d p ≡ PacketType.Other = sym (ap (λ (x : Head). x .kind) (b .pre .0)) ∙ c .enum-told6 .given .1 in
-    sym (count-of-type d p _ (b .pre .1) t)
+    sym (count-of-type d p _ t)
 
 pub count-content-spec : {M : Type 1} → statement M
 count-content-spec =

@@ -9,14 +9,17 @@ is-bad-length-requires : tie.Need-is-bad-length-requires
 is-bad-length-requires c κs = search needs
 
 returns : tie.Need-returns
-returns c = sym (count-bad-length (c .before .before .before .args .d .now) (cc))
+returns c =
+    let a = c .before .before .before .args in
+    sym (count-bad-length (a .reduced) (a .d .now) (cc))
 
 count-packets-requires : tie.Need-count-packets-requires
 count-packets-requires c κs = search needs
 
 returns-2 : tie.Need-returns-2
 returns-2 c =
-    let e : _ = count-of-packets (c .before .before .before .before .args .d .now) (cc) in
+    let a = c .before .before .before .before .args in
+    let e : _ = count-of-packets (a .reduced) (a .d .now) (cc) in
     c .count-packets .ensures ∙ sym e
 
 pub count-items-spec : {M : Type 1} → statement M

@@ -7,23 +7,24 @@ use borrow.Author.Needs.{needs}
 use Rattle.datagram.specs.Answers.{packetsCount}
 use Rattle.datagram.specs.Datagram.{packetCheck, packetItems}
 use Rattle.packet.specs.Packet.{size}
-use Rattle.datagram.proofs.Laws.Counting.{packetsLeft, left-refused, packet-counted}
-use Rattle.datagram.proofs.Laws.Datagram.{check-refused}
-use Rattle.datagram.proofs.Laws.Walk.{tally-start, tally-end, count-refused}
-use Rattle.packet.proofs.Laws.Packet.{entry-passed, entry-refused}
+use Rattle.datagram.proofs.Laws.Counting.{packetsLeft, head-refused, parts-refused, packet-counted}
+use Rattle.datagram.proofs.Laws.Walk.{tally-start, tally-end}
+use Rattle.packet.proofs.Laws.Contents.{known-readable}
+use Rattle.packet.proofs.Laws.Packet.{head-passed, entry-passed}
 use Rattle.datagram.proofs.count_packets.Statement.{statement}
 use Rattle.datagram.proofs.count_packets.Tie as tie
 
 abbrev Inv-loop : tie.InvT-loop
-Inv-loop d p₀ n₀ p n = (p ≤ length d) × (4 * n ≤ p) × (packetsCount d 0 ≡ packetsLeft d n p)
+Inv-loop d reduced p₀ n₀ p n = (p ≤ length d) × (4 * n ≤ p) × (packetsCount reduced d 0 ≡ packetsLeft reduced d n p)
 
 abbrev μ-loop : tie.MeasureT-loop
-μ-loop d p₀ n₀ p n = length d - p
+μ-loop d reduced p₀ n₀ p n = length d - p
 
 loop-holds : tie.Need-loop-holds Inv-loop μ-loop
 loop-holds c =
-    let d = c .before .args .d .now in
-    (omega arith, omega arith, sym (tally-start (packetCheck d) (packetItems d) (size d) (length d) 0))
+    let args = c .before .args in
+    let d = args .d .now in
+    (omega arith, omega arith, sym (tally-start (packetCheck (args .reduced) d) (packetItems d) (size d) (length d) 0))
 
 head-at-requires : tie.Need-head-at-requires Inv-loop μ-loop
 head-at-requires c κs = search needs
@@ -34,11 +35,11 @@ enum-known-number c = search needs
 returns : tie.Need-returns Inv-loop μ-loop
 returns c =
     let b = c .before .before .before .before .before in
-    let d = b .before .before .args .d .now in
-    let e : _ =
-    entry-refused d (b .loop .p) _ (sym (c .before .before .before .head-at .ensures) ∙ c .before .number .given .1)
-    in
-    sym (b .loop .inv .2 ∙ left-refused d (b .loop .n) (b .loop .p) _ _ (omega arith) (check-refused d (b .loop .p) _ _ e))
+    let args = b .before .before .args in
+    sym
+    (b .loop .inv .2
+    ∙ head-refused (args .reduced) (args .d .now) (b .loop .n) (b .loop .p) (omega arith) _
+    (sym (c .before .before .before .head-at .ensures) ∙ c .before .number .given .1))
 
 enum-known-h : tie.Need-enum-known-h Inv-loop μ-loop
 enum-known-h c = search needs
@@ -46,11 +47,13 @@ enum-known-h c = search needs
 count-content-requires : tie.Need-count-content-requires Inv-loop μ-loop
 count-content-requires c κs =
     let b = c .before .before .before .before .before in
-    let d = b .before .before .args .d .now in
+    let args = b .before .before .args in
+    let reduced = args .reduced in
+    let d = args .d .now in
     let h = c .before in
     let k : _ =
-    entry-passed d (b .loop .p) (h .h .given .0 .0) (sym (h .before .before .head-at .ensures) ∙ h .h .given .1) in
-    (k .1, k .0)
+    entry-passed reduced d (b .loop .p) (h .h .given .0 .0) (sym (h .before .before .head-at .ensures) ∙ h .h .given .1) in
+    (k .1, known-readable d (b .loop .p) (head-passed reduced d (b .loop .p) (k .0)))
 
 enum-known-r : tie.Need-enum-known-r Inv-loop μ-loop
 enum-known-r c = search needs
@@ -58,12 +61,14 @@ enum-known-r c = search needs
 returns-2 : tie.Need-returns-2 Inv-loop μ-loop
 returns-2 c =
     let b = c .before .before .before .before .before .before .before .before .before in
-    let d = b .before .before .args .d .now in
+    let args = b .before .before .args in
+    let h = c .before .before .before .before .before in
     let r = c .before in
-    let e : _ =
-    count-refused (packetCheck d (b .loop .p)) _ (r .r .given .0 .0)
-    (sym (r .before .before .count-content .ensures) ∙ r .r .given .1) in
-    sym (b .loop .inv .2 ∙ left-refused d (b .loop .n) (b .loop .p) _ _ (omega arith) e)
+    sym
+    (b .loop .inv .2
+    ∙ parts-refused (args .reduced) (args .d .now) (b .loop .n) (b .loop .p) (omega arith) (h .h .given .0 .0)
+    (sym (h .before .before .head-at .ensures) ∙ h .h .given .1) (r .r .given .0 .0)
+    (sym (r .before .before .count-content .ensures) ∙ r .r .given .1))
 
 enum-known-items : tie.Need-enum-known-items Inv-loop μ-loop
 enum-known-items c = search needs
@@ -71,62 +76,60 @@ enum-known-items c = search needs
 add-n : tie.Need-add-n Inv-loop μ-loop
 add-n c =
     let b = c .before .before .before .before .before .before .before .before .before in
-    let d = b .before .before .args .d .now in
+    let args = b .before .before .args in
     let h = c .before .before .before .before .before in
-    let k : _ =
-    entry-passed d (b .loop .p) (h .h .given .0 .0) (sym (h .before .before .head-at .ensures) ∙ h .h .given .1) in
     let i = c .before in
     let m : _ =
-    packet-counted d (b .loop .n) (b .loop .p) (i .items .given .0 .0) (h .h .given .0 .0) (omega arith) (k .1)
+    packet-counted (args .reduced) (args .d .now) (b .loop .n) (b .loop .p) (omega arith) (h .h .given .0 .0)
+    (sym (h .before .before .head-at .ensures) ∙ h .h .given .1) (i .items .given .0 .0)
     (sym (i .before .before .count-content .ensures) ∙ i .items .given .1) in
     omega (arith, m .few, m .inside, b .loop .inv .1)
 
 add-p : tie.Need-add-p Inv-loop μ-loop
 add-p c =
     let b = c .before .before .before .before .before .before .before .before .before .before in
-    let d = b .before .before .args .d .now in
+    let args = b .before .before .args in
     let h = c .before .before .before .before .before .before in
-    let k : _ =
-    entry-passed d (b .loop .p) (h .h .given .0 .0) (sym (h .before .before .head-at .ensures) ∙ h .h .given .1) in
     let i = c .before .before in
     let m : _ =
-    packet-counted d (b .loop .n) (b .loop .p) (i .items .given .0 .0) (h .h .given .0 .0) (omega arith) (k .1)
+    packet-counted (args .reduced) (args .d .now) (b .loop .n) (b .loop .p) (omega arith) (h .h .given .0 .0)
+    (sym (h .before .before .head-at .ensures) ∙ h .h .given .1) (i .items .given .0 .0)
     (sym (i .before .before .count-content .ensures) ∙ i .items .given .1) in
     omega (arith, m .inside)
 
 loop-less : tie.Need-loop-less Inv-loop μ-loop
 loop-less c =
     let b = c .before .before .before .before .before .before .before .before .before .before in
-    let d = b .before .before .args .d .now in
+    let args = b .before .before .args in
     let h = c .before .before .before .before .before .before in
-    let k : _ =
-    entry-passed d (b .loop .p) (h .h .given .0 .0) (sym (h .before .before .head-at .ensures) ∙ h .h .given .1) in
     let i = c .before .before in
     let m : _ =
-    packet-counted d (b .loop .n) (b .loop .p) (i .items .given .0 .0) (h .h .given .0 .0) (omega arith) (k .1)
+    packet-counted (args .reduced) (args .d .now) (b .loop .n) (b .loop .p) (omega arith) (h .h .given .0 .0)
+    (sym (h .before .before .head-at .ensures) ∙ h .h .given .1) (i .items .given .0 .0)
     (sym (i .before .before .count-content .ensures) ∙ i .items .given .1) in
     omega (arith, m .inside, m .whole)
 
 loop-again : tie.Need-loop-again Inv-loop μ-loop
 loop-again c =
     let b = c .before .before .before .before .before .before .before .before .before .before in
-    let d = b .before .before .args .d .now in
+    let args = b .before .before .args in
     let h = c .before .before .before .before .before .before in
-    let k : _ =
-    entry-passed d (b .loop .p) (h .h .given .0 .0) (sym (h .before .before .head-at .ensures) ∙ h .h .given .1) in
     let i = c .before .before in
     let m : _ =
-    packet-counted d (b .loop .n) (b .loop .p) (i .items .given .0 .0) (h .h .given .0 .0) (omega arith) (k .1)
+    packet-counted (args .reduced) (args .d .now) (b .loop .n) (b .loop .p) (omega arith) (h .h .given .0 .0)
+    (sym (h .before .before .head-at .ensures) ∙ h .h .given .1) (i .items .given .0 .0)
     (sym (i .before .before .count-content .ensures) ∙ i .items .given .1) in
     (m .inside, omega (arith, m .few, b .loop .inv .1), b .loop .inv .2 ∙ m .rest)
 
 returns-3 : tie.Need-returns-3 Inv-loop μ-loop
 returns-3 c =
     let b = c .before in
-    let d = b .before .before .args .d .now in
+    let args = b .before .before .args in
+    let reduced = args .reduced in
+    let d = args .d .now in
     sym
     (b .loop .inv .2
-    ∙ tally-end (packetCheck d) (packetItems d) (size d) (length d) (λ k. omega arith) (b .loop .n) (b .loop .p) (omega arith))
+    ∙ tally-end (packetCheck reduced d) (packetItems d) (size d) (length d) (λ k. omega arith) (b .loop .n) (b .loop .p) (omega arith))
 
 pub count-packets-spec : {M : Type 1} → statement M
 count-packets-spec =

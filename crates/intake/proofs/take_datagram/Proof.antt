@@ -23,7 +23,7 @@ returns c =
     let args = c .before .before .before .before .before .before .before .before .args in
     let open-datagram = c .before .before .before .before .before .open-datagram in
     let n = c .before .before .before .n in
-    answered-short (args .t) (args .d .now) (args .origin) (args .at) (args .answers .now) _ _ _
+    answered-short (args .t) (args .reduced) (args .d .now) (args .origin) (args .at) (args .answers .now) _ _ _
     (sym (open-datagram .ensures) ∙ n .given .1) (c .before .count-calls .ensures) (c .if1 .taken)
 
 make-calls-requires : tie.Need-make-calls-requires
@@ -36,7 +36,7 @@ returns-2 : tie.Need-returns-2
 returns-2 c =
     let args = c .before .before .before .before .before .before .args in
     let open-datagram = c .before .before .before .open-datagram in
-    answered-refused (args .t) (args .d .now) (args .origin) (args .at) (args .answers .now) _
+    answered-refused (args .t) (args .reduced) (args .d .now) (args .origin) (args .at) (args .answers .now) _
     (sym (open-datagram .ensures) ∙ c .before .r .given .1)
 
 same-length : tie.Need-same-length
@@ -49,7 +49,7 @@ returns-3 c =
     let open-datagram = else .before .before .before .before .before .open-datagram in
     let n = else .before .before .before .n in
     let made = c .before .before .make-calls in
-    answered-all (args .t) (args .d .now) (args .origin) (args .at) (args .answers .now) _ _ _
+    answered-all (args .t) (args .reduced) (args .d .now) (args .origin) (args .at) (args .answers .now) _ _ _
     (sym (open-datagram .ensures) ∙ n .given .1) (else .before .count-calls .ensures) _ _
     (else .if1 .left) (made .ensures .0) (made .ensures .1)
 

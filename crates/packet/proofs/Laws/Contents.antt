@@ -12,14 +12,13 @@ use Rattle.packet.specs.declared.kind.PacketType.{PacketType}
 use Rattle.packet.specs.declared.contents.Packet.{Packet}
 use Rattle.packet.specs.declared.settings.PacketSettings.{PacketSettings}
 use Rattle.packet.specs.Bytes.{be32}
-use Rattle.packet.specs.Packet.{packetType, count, kind, size, content, contentIsShort, headCheck}
+use Rattle.packet.specs.Packet.{packetType, count, kind, size, content, contentIsShort}
 use Rattle.packet.specs.Settings.{settingsAt}
-use Rattle.packet.specs.Checks.{passed}
 use Rattle.packet.specs.Contents.{contentsOf, contents, readable}
 use Rattle.packet.specs.Answers.{packetIs, settingsIs}
 use Rattle.packet.proofs.Laws.Bools.{and-left, and-right}
 use Rattle.packet.proofs.Laws.Kinds.{Carries, kind-carries}
-use Rattle.packet.proofs.Laws.Packet.{content-inside, Readable, head-passed}
+use Rattle.packet.proofs.Laws.Packet.{content-inside, Readable}
 
 -- the parts of a packet of a type, which lie in its content
 pub data Holds (d : List ℕ) (p : ℕ) : Packet → Type 0 where
@@ -106,8 +105,12 @@ module _ (d : List ℕ) (p : ℕ) where
   pub packet-outside : length d - p < 4 → packetIs d p ≡ Packet.Unreadable
   packet-outside h = packet-unread (unreadable-long (omega arith))
 
-  pub packet-passed : headCheck d p ≡ passed → packetIs d p ≡ contents d p
-  packet-passed e = let h : _ = head-passed d p e in packet-read (readable-there (h .fits) (h .enough))
+  -- a packet whose header has passed
+  pub known-readable : Readable d p → readable d p ≡ true
+  known-readable h = readable-there (h .fits) (h .enough)
+
+  pub packet-known : Readable d p → packetIs d p ≡ contents d p
+  packet-known h = packet-read (known-readable h)
 
 -- ---- settingsIs
 

@@ -1,8 +1,8 @@
 -- Laws of a packet's header: what each check says once it has passed, and the answer where one has not.
 use Prim.Native.Nat.{ℕ, _+_, _-_, _%_, _≤_, _<_}
-use mathlib.Core.Path.{_≡_, refl, sym, ap, _∙_}
+use mathlib.Core.Path.{_≡_, refl, ap, _∙_}
 use mathlib.Core.List.{List}
-use mathlib.Core.Bool.{Bool, true, false, not, _&&_, _||_}
+use mathlib.Core.Bool.{Bool, true, false, not, _||_}
 use lib.ListN.{length}
 use lib.Dec.{ltb, eqb}
 use native.Mathlib.Omega.{arith}
@@ -11,9 +11,9 @@ use Rattle.refusals.specs.Refusals.{badPacket, badPadding, badFirst, shortConte
 use Rattle.packet.specs.declared.header.Head.{Head}
 use Rattle.packet.specs.declared.header.Entry.{Entry}
 use Rattle.packet.specs.Checks.{Check, passed, refused}
-use Rattle.packet.specs.Packet.{version, padded, kind, size, padding, paddingIsBad, content, contentIsShort, opens, headCheck}
+use Rattle.packet.specs.Packet.{version, padded, kind, size, padding, paddingIsBad}
+use Rattle.packet.specs.Packet.{content, contentIsShort, firstIsBad, headCheck}
 use Rattle.packet.specs.Answers.{headOf, headUnless, entry}
-use Rattle.packet.proofs.Laws.Bools.{or-false}
 use Rattle.packet.proofs.Laws.Checks.{check-passes, Refuses, passed-refuses, refuseIf-refuses}
 
 -- ---- content
@@ -61,18 +61,18 @@ pub record Readable (d : List ℕ) (p : ℕ) : Type 0 where
   pub inside : content d p ≤ size d p
   pub enough : contentIsShort (kind d p) (content d p) ≡ false
 
-pub head-version : (d : List ℕ) (p : ℕ) → headCheck d p ≡ passed → version d p ≡ 2
+pub head-version : (reduced : Bool) (d : List ℕ) (p : ℕ) → headCheck reduced d p ≡ passed → version d p ≡ 2
 unfolding headCheck
-head-version d p h =
+head-version reduced d p h =
     eqb-true (version d p) 2 (not-false (eqb (version d p) 2) (check-passes (not (eqb (version d p) 2)) _ _ _ h .0))
 
-pub head-passed : (d : List ℕ) (p : ℕ) → headCheck d p ≡ passed → Readable d p
+pub head-passed : (reduced : Bool) (d : List ℕ) (p : ℕ) → headCheck reduced d p ≡ passed → Readable d p
 unfolding headCheck
-head-passed d p h =
+head-passed reduced d p h =
     let a : _ = check-passes (not (eqb (version d p) 2)) _ _ _ h in
     let b : _ = check-passes (ltb (length d) (p + size d p)) _ _ _ (a .1) in
     let e : _ = check-passes (paddingIsBad d p) _ _ _ (b .1) in
-    let f : _ = check-passes (eqb p 0 && not (opens (kind d p))) _ _ _ (e .1) in
+    let f : _ = check-passes (firstIsBad reduced p (kind d p)) _ _ _ (e .1) in
     let g : _ = check-passes (contentIsShort (kind d p) (content d p)) _ _ _ (f .1) in
     record {
       fits = ltb-false (length d) (p + size d p) (b .0);
@@ -82,52 +82,54 @@ head-passed d p h =
 
 -- what holds of each number with the packet's place holds of every refusal
 pub head-refuses :
-    (P : ℕ → ℕ → Type 0) (d : List ℕ) (p : ℕ) → P badPacket p → P badPadding p → P badFirst p → P shortContent p
-    → Refuses P (headCheck d p)
+    (P : ℕ → ℕ → Type 0) (reduced : Bool) (d : List ℕ) (p : ℕ)
+    → P badPacket p → P badPadding p → P badFirst p → P shortContent p
+    → Refuses P (headCheck reduced d p)
 unfolding headCheck
-head-refuses P d p two three four five =
+head-refuses P reduced d p two three four five =
     refuseIf-refuses P (not (eqb (version d p) 2)) _ p _ two
     (refuseIf-refuses P (ltb (length d) (p + size d p)) _ p _ two
     (refuseIf-refuses P (paddingIsBad d p) _ p _ three
-    (refuseIf-refuses P (eqb p 0 && not (opens (kind d p))) _ p _ four
+    (refuseIf-refuses P (firstIsBad reduced p (kind d p)) _ p _ four
     (refuseIf-refuses P (contentIsShort (kind d p) (content d p)) _ p _ five (passed-refuses P)))))
 
 -- ---- entry, by the first check that applies
 
-module _ (d : List ℕ) (p : ℕ) where
-  pub entry-version : (version d p ≡ 2 → ⊥) → entry d p ≡ Entry.Refused badPacket
+module _ (reduced : Bool) (d : List ℕ) (p : ℕ) where
+  pub entry-version : (version d p ≡ 2 → ⊥) → entry reduced d p ≡ Entry.Refused badPacket
   unfolding entry headCheck
   entry-version v = rw (ne-eqb (version d p) 2 v, entry, headCheck)
 
   module _ (v : version d p ≡ 2) where
-    pub entry-long : length d < p + size d p → entry d p ≡ Entry.Refused badPacket
+    pub entry-long : length d < p + size d p → entry reduced d p ≡ Entry.Refused badPacket
     unfolding entry headCheck
     entry-long l = rw (eq-eqb (version d p) 2 v, lt-ltb (length d) (p + size d p) l)
 
     module _ (l : p + size d p ≤ length d) where
-      pub entry-padding : paddingIsBad d p ≡ true → entry d p ≡ Entry.Refused badPadding
+      pub entry-padding : paddingIsBad d p ≡ true → entry reduced d p ≡ Entry.Refused badPadding
       unfolding entry headCheck
       entry-padding b = rw (eq-eqb (version d p) 2 v, le-ltb (length d) (p + size d p) l, b)
 
       module _ (b : paddingIsBad d p ≡ false) where
-        pub entry-first : (eqb p 0 && not (opens (kind d p))) ≡ true → entry d p ≡ Entry.Refused badFirst
+        pub entry-first : firstIsBad reduced p (kind d p) ≡ true → entry reduced d p ≡ Entry.Refused badFirst
         unfolding entry headCheck
         entry-first f = rw (eq-eqb (version d p) 2 v, le-ltb (length d) (p + size d p) l, b, f)
 
-        module _ (f : (eqb p 0 && not (opens (kind d p))) ≡ false) where
-          pub entry-short : contentIsShort (kind d p) (content d p) ≡ true → entry d p ≡ Entry.Refused shortContent
+        module _ (f : firstIsBad reduced p (kind d p) ≡ false) where
+          pub entry-short :
+              contentIsShort (kind d p) (content d p) ≡ true → entry reduced d p ≡ Entry.Refused shortContent
           unfolding entry headCheck
           entry-short s = rw (eq-eqb (version d p) 2 v, le-ltb (length d) (p + size d p) l, b, f, s)
 
-          pub entry-head : contentIsShort (kind d p) (content d p) ≡ false → entry d p ≡ Entry.Head (headOf d p)
+          pub entry-head : contentIsShort (kind d p) (content d p) ≡ false → entry reduced d p ≡ Entry.Head (headOf d p)
           unfolding entry headCheck
           entry-head s = rw (eq-eqb (version d p) 2 v, le-ltb (length d) (p + size d p) l, b, f, s)
 
   -- a byte past the end reads as 0, and no packet is shorter than a word
-  pub entry-outside : length d - p < 4 → entry d p ≡ Entry.Refused badPacket
+  pub entry-outside : length d - p < 4 → entry reduced d p ≡ Entry.Refused badPacket
   entry-outside h = go (eqb (version d p) 2) refl
     where
-      go : (t : Bool) → eqb (version d p) 2 ≡ t → entry d p ≡ Entry.Refused badPacket
+      go : (t : Bool) → eqb (version d p) 2 ≡ t → entry reduced d p ≡ Entry.Refused badPacket
       go true e = entry-long (eqb-true (version d p) 2 e) (omega arith)
       go false e = entry-version (eqb-false (version d p) 2 e)
 
@@ -142,12 +144,16 @@ headUnless-refused passed x n e = let z : _≡_ {A = ℕ} 0 1 = cc in absurd (om
 headUnless-refused (refused number place) x n e = (place, cc)
 
 pub entry-passed :
-    (d : List ℕ) (p : ℕ) (h : Head) → entry d p ≡ Entry.Head h → (headCheck d p ≡ passed) × (h ≡ headOf d p)
+    (reduced : Bool) (d : List ℕ) (p : ℕ) (h : Head) → entry reduced d p ≡ Entry.Head h
+    → (headCheck reduced d p ≡ passed) × (h ≡ headOf d p)
 unfolding entry
-entry-passed d p h e = headUnless-head (headCheck d p) (headOf d p) h e
+entry-passed reduced d p h e = headUnless-head (headCheck reduced d p) (headOf d p) h e
 
-pub entry-refused : (d : List ℕ) (p n : ℕ) → entry d p ≡ Entry.Refused n → headCheck d p ≡ refused n p
+pub entry-refused :
+    (reduced : Bool) (d : List ℕ) (p n : ℕ) → entry reduced d p ≡ Entry.Refused n → headCheck reduced d p ≡ refused n p
 unfolding entry
-entry-refused d p n e =
-    let r : _ = headUnless-refused (headCheck d p) (headOf d p) n e in
-    r .1 ∙ ap (refused n) (head-refuses (λ (number place : ℕ). place ≡ p) d p refl refl refl refl n (r .0) (r .1))
+entry-refused reduced d p n e =
+    let r : _ = headUnless-refused (headCheck reduced d p) (headOf d p) n e in
+    r .1
+    ∙ ap (refused n)
+    (head-refuses (λ (number place : ℕ). place ≡ p) reduced d p refl refl refl refl n (r .0) (r .1))

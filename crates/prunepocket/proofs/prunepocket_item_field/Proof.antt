@@ -4,6 +4,9 @@ use borrow.Author.Needs.{needs}
 use Rattle.prunepocket.proofs.prunepocket_item_field.Statement.{statement}
 use Rattle.prunepocket.proofs.prunepocket_item_field.Tie as tie
 
+is-agreed-requires : tie.Need-is-agreed-requires
+is-agreed-requires c κs = search needs
+
 item-at-requires : tie.Need-item-at-requires
 item-at-requires c κs = search needs
 
@@ -30,20 +33,26 @@ accept-requires c κs = search needs
 
 returns : tie.Need-returns
 returns c =
-    let found : _ = sym (c .before .before .before .before .item-at .ensures) ∙ c .before .before .r .given .1 in
+    let read = c .before .before .before .before in
+    let finds : _ = rw (read .before .is-agreed .ensures) at (read .item-at .ensures) in
+    let found : _ = sym finds ∙ c .before .before .r .given .1 in
     rw found (c .refuse .ensures, refl)
 
 returns-2 : tie.Need-returns-2
 returns-2 c =
     let at-item = c .before .before .before .before in
-    let found : _ = sym (at-item .before .before .item-at .ensures) ∙ at-item .x .given .1 in
+    let read = at-item .before .before in
+    let finds : _ = rw (read .before .is-agreed .ensures) at (read .item-at .ensures) in
+    let found : _ = sym finds ∙ at-item .x .given .1 in
     let absent : _ = sym (c .before .before .field-at .ensures) ∙ c .enum-told .given .1 in
     rw (found, absent) (refl, refl)
 
 returns-3 : tie.Need-returns-3
 returns-3 c =
     let at-item = c .before .before .before .before .before .before in
-    let found : _ = sym (at-item .before .before .item-at .ensures) ∙ at-item .x .given .1 in
+    let read = at-item .before .before in
+    let finds : _ = rw (read .before .is-agreed .ensures) at (read .item-at .ensures) in
+    let found : _ = sym finds ∙ at-item .x .given .1 in
     let value : _ = sym (c .before .before .before .before .field-at .ensures) ∙ c .before .before .v .given .1 in
     rw (found, value) (c .accept .ensures, refl)
 
@@ -51,6 +60,7 @@ pub prunepocket-item-field-spec : {M : Type 1} → statement M
 prunepocket-item-field-spec =
     tie.close
     (tie.spec
+    is-agreed-requires
     item-at-requires
     enum-known-r
     refuse-requires

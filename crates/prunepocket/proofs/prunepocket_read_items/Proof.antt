@@ -4,6 +4,9 @@ use borrow.Author.Needs.{needs}
 use Rattle.prunepocket.proofs.prunepocket_read_items.Statement.{statement}
 use Rattle.prunepocket.proofs.prunepocket_read_items.Tie as tie
 
+is-agreed-requires : tie.Need-is-agreed-requires
+is-agreed-requires c κs = search needs
+
 read-items-requires : tie.Need-read-items-requires
 read-items-requires c κs = search needs
 
@@ -24,7 +27,8 @@ same-length c = search needs
 
 returns : tie.Need-returns
 returns c =
-    let read = c .before .before .before .before .before .before .read-items .ensures in
+    let reading = c .before .before .before .before .before .before in
+    let read : _ = rw (reading .before .before .is-agreed .ensures) at (reading .read-items .ensures) in
     let answer : _ = sym (read .0) ∙ c .before .before .r .given .1 in
     rw answer (c .refuse .ensures, read .1, refl)
 
@@ -33,7 +37,8 @@ same-length-2 c = search needs
 
 returns-2 : tie.Need-returns-2
 returns-2 c =
-    let read = c .before .before .before .before .before .before .read-items .ensures in
+    let reading = c .before .before .before .before .before .before in
+    let read : _ = rw (reading .before .before .is-agreed .ensures) at (reading .read-items .ensures) in
     let answer : _ = sym (read .0) ∙ c .before .before .items .given .1 in
     rw answer (c .accept .ensures, read .1, refl)
 
@@ -41,6 +46,7 @@ pub prunepocket-read-items-spec : {M : Type 1} → statement M
 prunepocket-read-items-spec =
     tie.close
     (tie.spec
+    is-agreed-requires
     read-items-requires
     enum-known-r
     refuse-requires

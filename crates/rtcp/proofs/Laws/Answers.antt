@@ -2,6 +2,7 @@
 use Prim.Native.Nat.{ℕ, suc, zero, _-_, _≤_, _<_}
 use mathlib.Core.Path.{_≡_, refl, sym, ap}
 use mathlib.Core.List.{List, _∷_}
+use mathlib.Core.Bool.{Bool}
 use lib.ListN.{length, getD}
 use native.Mathlib.Omega.{arith}
 use borrow.Author.Tests.{lt-ltb, le-ltb}
@@ -20,13 +21,15 @@ use Rattle.rtcp.specs.Cursor.{start}
 
 -- ---- cursorOn
 
-pub cursor-passed : (d : List ℕ) (n : ℕ) → itemCount d ≡ Count.Items n → cursorOn d ≡ Opened.Items n start
-unfolding cursorOn
-cursor-passed d n e = let m : _ = datagram-passed d n e in rw (m .0) (ap (λ (k : ℕ). Opened.Items k start) (sym (m .1)))
+module _ (reduced : Bool) (d : List ℕ) where
+  pub cursor-passed : (n : ℕ) → itemCount reduced d ≡ Count.Items n → cursorOn reduced d ≡ Opened.Items n start
+  unfolding cursorOn
+  cursor-passed n e =
+      let m : _ = datagram-passed reduced d n e in rw (m .0) (ap (λ (k : ℕ). Opened.Items k start) (sym (m .1)))
 
-pub cursor-refused : (d : List ℕ) (r : Refusal) → itemCount d ≡ Count.Refused r → cursorOn d ≡ Opened.Refused r
-unfolding cursorOn
-cursor-refused d r e = rw (datagram-refused d r e)
+  pub cursor-refused : (r : Refusal) → itemCount reduced d ≡ Count.Refused r → cursorOn reduced d ≡ Opened.Refused r
+  unfolding cursorOn
+  cursor-refused r e = rw (datagram-refused reduced d r e)
 
 -- ---- an item behind the first
 
@@ -36,20 +39,21 @@ getD-behind x l (suc i) none h = let e : suc i - 1 ≡ i = omega arith in ap (λ
 
 -- ---- itemOf
 
-pub item-refused :
-    (d : List ℕ) (index number place : ℕ) → datagramCheck d ≡ refused number place
-    → itemOf d index ≡ Found.Refused (refusal number place)
-unfolding itemOf
-item-refused d index number place e = rw e
+module _ (reduced : Bool) (d : List ℕ) (index : ℕ) where
+  pub item-refused :
+      (number place : ℕ) → datagramCheck reduced d ≡ refused number place
+      → itemOf reduced d index ≡ Found.Refused (refusal number place)
+  unfolding itemOf
+  item-refused number place e = rw e
 
-pub item-past :
-    (d : List ℕ) (index : ℕ) → datagramCheck d ≡ passed → length (datagramItems d) ≤ index
-    → itemOf d index ≡ Found.Refused (refusal noSuchItem 0)
-unfolding itemOf pick
-item-past d index e h = rw (e, le-ltb index (length (datagramItems d)) h)
+  pub item-past :
+      datagramCheck reduced d ≡ passed → length (datagramItems d) ≤ index
+      → itemOf reduced d index ≡ Found.Refused (refusal noSuchItem 0)
+  unfolding itemOf pick
+  item-past e h = rw (e, le-ltb index (length (datagramItems d)) h)
 
-pub item-there :
-    (d : List ℕ) (index : ℕ) → datagramCheck d ≡ passed → index < length (datagramItems d)
-    → itemOf d index ≡ Found.Item (getD (datagramItems d) index nothing)
-unfolding itemOf pick
-item-there d index e h = rw (e, lt-ltb index (length (datagramItems d)) h)
+  pub item-there :
+      datagramCheck reduced d ≡ passed → index < length (datagramItems d)
+      → itemOf reduced d index ≡ Found.Item (getD (datagramItems d) index nothing)
+  unfolding itemOf pick
+  item-there e h = rw (e, lt-ltb index (length (datagramItems d)) h)

@@ -20,10 +20,10 @@ use Rattle.packet.specs.Answers.{blockIs, sourceIs}
 use Rattle.packet.proofs.Laws.Bytes.{source-inside}
 use Rattle.packet.proofs.Laws.Checks.{check-passes}
 use Rattle.packet.proofs.Laws.Packet.{Readable}
-use Rattle.packet.proofs.Laws.Contents.{Holds, unread, sources, blocks, setting, holds, readable-packet, packet-read, packet-unread, packet-outside, packet-passed}
+use Rattle.packet.proofs.Laws.Contents.{Holds, unread, sources, blocks, setting, holds, readable-packet, packet-read, packet-unread, packet-outside, packet-known}
 use Rattle.packet.proofs.Laws.Blocks.{met-skipped}
-use Rattle.datagram.specs.Datagram.{blocksCheck, partsItems, packetsCheck, packetsItems, lengthIsBad, datagramCheck, datagramItems}
-use Rattle.datagram.proofs.Laws.Datagram.{sources-part, sources-end, blocks-end, PacketsTurn, packets-turn, packets-end, items-of, check-of}
+use Rattle.datagram.specs.Datagram.{blocksCheck, partsCheck, partsItems, packetsCheck, packetsItems, lengthIsBad, datagramCheck, datagramItems}
+use Rattle.datagram.proofs.Laws.Datagram.{sources-part, sources-end, blocks-end, PacketsTurn, packets-turn, packets-end, items-of}
 use Rattle.rtcp.specs.declared.cursor.State.{State}
 use Rattle.rtcp.specs.declared.cursor.Cursor.{Cursor}
 use Rattle.rtcp.specs.declared.cursor.Step.{Step}
@@ -129,14 +129,14 @@ unfolding nextOf
 next-onward d c n e =
     seek-onward (left d c) d c n e ∙ seek-enough (left d c) (suc (left d n)) d n (left-falls d c n e) (omega arith)
 
--- ---- Good: a cursor that a datagram with no refusal has given
+-- ---- Good: a cursor that a datagram with no refusal, or with 4 alone, has given
 
 abbrev pub Good : List ℕ → State → Type 0
-Good d (State.Packet p) = packetsCheck d p ≡ passed
-Good d (State.Sources at stop next) = (stop ≤ length d) × ((stop - at) % 4 ≡ 0) × (packetsCheck d next ≡ passed)
-Good d (State.Blocks sender at stop next) = (blocksCheck d stop at ≡ passed) × (packetsCheck d next ≡ passed)
+Good d (State.Packet p) = packetsCheck true d p ≡ passed
+Good d (State.Sources at stop next) = (stop ≤ length d) × ((stop - at) % 4 ≡ 0) × (packetsCheck true d next ≡ passed)
+Good d (State.Blocks sender at stop next) = (blocksCheck d stop at ≡ passed) × (packetsCheck true d next ≡ passed)
 
-pub start-good : (d : List ℕ) → datagramCheck d ≡ passed → Good d (start .state)
+pub start-good : (d : List ℕ) → datagramCheck true d ≡ passed → Good d (start .state)
 unfolding datagramCheck
 start-good d e = check-passes (lengthIsBad (length d)) _ _ _ e .1
 
@@ -147,8 +147,8 @@ data Steps (d : List ℕ) (c : State) : Advance → Type 0 where
   went : (n : State) → remaining d c ≡ remaining d n → Good d n → Steps d c (Advance.Onward n)
 
 -- at a packet that has passed
-packet-steps : (d : List ℕ) (p : ℕ) → PacketsTurn d p → Steps d (State.Packet p) (advance d (State.Packet p))
-packet-steps d p turn = rw (at-packet d p (packet-passed d p (turn .head))) (go refl (holds d p (turn .known)))
+packet-steps : (d : List ℕ) (p : ℕ) → PacketsTurn true d p → Steps d (State.Packet p) (advance d (State.Packet p))
+packet-steps d p turn = rw (at-packet d p (packet-known d p (turn .known))) (go refl (holds d p (turn .known)))
   where
     items-as : {x : Packet} → contents d p ≡ x → packetsItems d p ≡ partsItems d p x ++ packetsItems d (p + size d p)
     items-as e = turn .items ∙ ap (λ (l : List Placed). l ++ packetsItems d (p + size d p)) (items-of d p e)
@@ -160,14 +160,14 @@ packet-steps d p turn = rw (at-packet d p (packet-passed d p (turn .head))) (go 
         (omega (arith, turn .known .fits, turn .known .inside, h), omega (arith, l), turn .later)
     go e (blocks h) =
         went (State.Blocks (be32 d (p + 4)) (p + 8) (p + content d p) (p + size d p)) (items-as e)
-        (sym (check-of d p e (turn .head)) ∙ turn .check, turn .later)
+        (sym (ap (partsCheck d) e) ∙ turn .parts, turn .later)
     go e (setting t h) = gave _ (State.Packet (p + size d p)) (items-as e) (turn .later)
 
 advance-steps : (d : List ℕ) (c : State) → Good d c → Steps d c (advance d c)
 advance-steps d (State.Packet p) good = go (ltb p (length d)) refl
   where
     go : (t : Bool) → ltb p (length d) ≡ t → Steps d (State.Packet p) (advance d (State.Packet p))
-    go true t = packet-steps d p (packets-turn d p (ltb-true p (length d) t) good)
+    go true t = packet-steps d p (packets-turn true d p (ltb-true p (length d) t) good)
     go false t =
         let over : length d ≤ p = ltb-false p (length d) t in
         rw (at-packet d p (packet-outside d p (omega arith))) (ended (packets-end d p over))
@@ -283,6 +283,6 @@ given-all (suc k) d c good h = go refl (next-gives d (c .state) good) (λ n g l.
         rw (e, given) (ap (λ (l : List Placed). x ∷ l) (rest (cursorAt n) g (omega (arith, ap length f))) ∙ sym f)
 
 pub cursor-gives-items :
-    (d : List ℕ) (k : ℕ) → datagramCheck d ≡ passed → length (datagramItems d) ≤ k → given k d start ≡ datagramItems d
+    (d : List ℕ) (k : ℕ) → datagramCheck true d ≡ passed → length (datagramItems d) ≤ k → given k d start ≡ datagramItems d
 unfolding datagramItems
 cursor-gives-items d k e h = given-all k d start (start-good d e) h

@@ -1,7 +1,7 @@
 -- The places that the items of a datagram are read from: every report is read from a block of type 12, role 1 and 8
 -- words, every settings item from a packet of type 211, both whole in the datagram.
 use Prim.Native.Nat.{ℕ, suc, zero, _+_, _-_, _≤_, _<_}
-use mathlib.Core.Path.{_≡_, refl, sym, _∙_}
+use mathlib.Core.Path.{_≡_, refl, sym, ap, _∙_}
 use mathlib.Core.List.{List, [], _∷_, _++_}
 use mathlib.Core.Bool.{Bool, true, false}
 use lib.ListN.{length, getD}
@@ -19,11 +19,11 @@ use Rattle.packet.specs.Report.{blockLength, blockSize, reports, reportAt}
 use Rattle.packet.specs.Settings.{settingsItem}
 use Rattle.packet.specs.Contents.{contents}
 use Rattle.packet.proofs.Laws.Checks.{check-passes}
-use Rattle.packet.proofs.Laws.Packet.{head-version}
 use Rattle.packet.proofs.Laws.Contents.{Holds, unread, sources, blocks, holds}
 use Rattle.packet.proofs.Laws.Blocks.{items-one, items-none, report-words}
-use Rattle.datagram.specs.Datagram.{sourceItems, blocksCheck, blocksItems, packetItems, packetsCheck, packetsItems, datagramCheck, datagramItems, lengthIsBad}
-use Rattle.datagram.proofs.Laws.Datagram.{sources-part, sources-end, BlocksTurn, blocks-turn, blocks-end, PacketsTurn, packets-turn, packets-end, items-of, check-of}
+use Rattle.datagram.specs.Datagram.{sourceItems, blocksCheck, blocksItems, partsCheck, packetItems, packetsCheck, packetsItems, datagramCheck, datagramItems, lengthIsBad}
+use Rattle.datagram.proofs.Laws.Datagram.{sources-part, sources-end, BlocksTurn, blocks-turn, blocks-end, PacketsTurn, packets-turn, packets-end, items-of}
+use Rattle.datagram.proofs.Theorems.{passes-agreed}
 use Rattle.rtcp.specs.Answers.{itemOf, nothing}
 use Rattle.rtcp.proofs.Laws.Answers.{item-refused, item-past, item-there}
 
@@ -84,7 +84,7 @@ blocks-read d sender (suc k) stop at h l e =
         let turn : BlocksTurn d sender stop at = blocks-turn d sender stop at (ltb-true at stop t) e in
         rw (turn .items, items-none d sender at g) (rest (turn .later))
 
-packet-read : (d : List ℕ) (p : ℕ) → PacketsTurn d p → All (ReadFrom d) (packetItems d p)
+packet-read : (d : List ℕ) (p : ℕ) → PacketsTurn true d p → All (ReadFrom d) (packetItems d p)
 packet-read d p turn = go refl (holds d p (turn .known))
   where
     go : {x : Packet} → contents d p ≡ x → Holds d p x → All (ReadFrom d) (packetItems d p)
@@ -94,47 +94,48 @@ packet-read d p turn = go refl (holds d p (turn .known))
         rw (items-of d p e)
         (blocks-read d (be32 d (p + 4)) (p + content d p - (p + 8)) (p + content d p) (p + 8) (omega arith)
         (omega (arith, turn .known .fits, turn .known .inside))
-        (sym (check-of d p e (turn .head)) ∙ turn .check))
+        (sym (ap (partsCheck d) e) ∙ turn .parts))
     go e (Holds.setting t h) =
         rw (items-of d p e)
         (also
-        (ReadFrom.setting p (head-version d p (turn .head)) t (omega (arith, h, turn .known .inside, turn .known .fits)))
+        (ReadFrom.setting p (turn .version-two) t (omega (arith, h, turn .known .inside, turn .known .fits)))
         none)
 
 packets-read :
-    (d : List ℕ) (k p : ℕ) → length d - p ≤ k → packetsCheck d p ≡ passed → All (ReadFrom d) (packetsItems d p)
+    (d : List ℕ) (k p : ℕ) → length d - p ≤ k → packetsCheck true d p ≡ passed → All (ReadFrom d) (packetsItems d p)
 packets-read d zero p h e = rw (packets-end d p (omega arith)) none
 packets-read d (suc k) p h e = go (ltb p (length d)) refl (λ c. packets-read d k (p + size d p) (omega arith) c)
   where
     go :
         (t : Bool) → ltb p (length d) ≡ t
-        → (packetsCheck d (p + size d p) ≡ passed → All (ReadFrom d) (packetsItems d (p + size d p)))
+        → (packetsCheck true d (p + size d p) ≡ passed → All (ReadFrom d) (packetsItems d (p + size d p)))
         → All (ReadFrom d) (packetsItems d p)
     go false t rest = rw (packets-end d p (ltb-false p (length d) t)) none
     go true t rest =
-        let turn : PacketsTurn d p = packets-turn d p (ltb-true p (length d) t) e in
+        let turn : PacketsTurn true d p = packets-turn true d p (ltb-true p (length d) t) e in
         rw (turn .items) (all-append (ReadFrom d) (packet-read d p turn) (rest (turn .later)))
 
-pub items-read : (d : List ℕ) → datagramCheck d ≡ passed → All (ReadFrom d) (datagramItems d)
+pub items-read : (d : List ℕ) → datagramCheck true d ≡ passed → All (ReadFrom d) (datagramItems d)
 unfolding datagramCheck datagramItems
 items-read d e = packets-read d (length d) 0 (omega arith) (check-passes (lengthIsBad (length d)) _ _ _ e .1)
 
 -- ---- the item at an index
 
-pub item-read : (d : List ℕ) (index : ℕ) (x : Placed) → itemOf d index ≡ Found.Item x → ReadFrom d x
-item-read d index x e = go (datagramCheck d) refl (ltb index (length (datagramItems d))) refl
+pub item-read :
+    (reduced : Bool) (d : List ℕ) (index : ℕ) (x : Placed) → itemOf reduced d index ≡ Found.Item x → ReadFrom d x
+item-read reduced d index x e = go (datagramCheck reduced d) refl (ltb index (length (datagramItems d))) refl
   where
-    go : (k : Check) → datagramCheck d ≡ k → (t : Bool) → ltb index (length (datagramItems d)) ≡ t → ReadFrom d x
+    go : (k : Check) → datagramCheck reduced d ≡ k → (t : Bool) → ltb index (length (datagramItems d)) ≡ t → ReadFrom d x
     go (refused number place) k t b =
-        let other : _ = item-refused d index number place k in
+        let other : _ = item-refused reduced d index number place k in
         let z : _≡_ {A = ℕ} 0 1 = cc in
         absurd (omega arith)
     go passed k false b =
-        let other : _ = item-past d index k (ltb-false index (length (datagramItems d)) b) in
+        let other : _ = item-past reduced d index k (ltb-false index (length (datagramItems d)) b) in
         let z : _≡_ {A = ℕ} 0 1 = cc in
         absurd (omega arith)
     go passed k true b =
         let here : index < length (datagramItems d) = ltb-true index (length (datagramItems d)) b in
-        let there : _ = item-there d index k here in
+        let there : _ = item-there reduced d index k here in
         let same : getD (datagramItems d) index nothing ≡ x = cc in
-        rw same at (all-at (ReadFrom d) (datagramItems d) index nothing (items-read d k) here)
+        rw same at (all-at (ReadFrom d) (datagramItems d) index nothing (items-read d (passes-agreed reduced d k)) here)

@@ -107,24 +107,28 @@ none-left d rows₀ rows cell p n f e h = nothing-left (packetsItems d p) (omega
 
 -- ---- the answer and the array, by what was checked
 
-module _ (d rows : List ℕ) where
-  pub rows-refused : (r : Refusal) → itemCount d ≡ Count.Refused r → (Count.Refused r ≡ rowsAnswer d rows) × (rows ≡ rowsAfter d rows)
+module _ (reduced : Bool) (d rows : List ℕ) where
+  pub rows-refused :
+      (r : Refusal) → itemCount reduced d ≡ Count.Refused r
+      → (Count.Refused r ≡ rowsAnswer reduced d rows) × (rows ≡ rowsAfter reduced d rows)
   unfolding rowsAnswer rowsAfter
-  rows-refused r e = rw (datagram-refused d r e) (refl, refl)
+  rows-refused r e = rw (datagram-refused reduced d r e) (refl, refl)
 
-  module _ (n : ℕ) (e : itemCount d ≡ Count.Items n) where
-    pub rows-short : length rows < 10 * n → (Count.Refused (refusal shortBuffer 0) ≡ rowsAnswer d rows) × (rows ≡ rowsAfter d rows)
+  module _ (n : ℕ) (e : itemCount reduced d ≡ Count.Items n) where
+    pub rows-short :
+        length rows < 10 * n
+        → (Count.Refused (refusal shortBuffer 0) ≡ rowsAnswer reduced d rows) × (rows ≡ rowsAfter reduced d rows)
     unfolding rowsAnswer rowsAfter
     rows-short h =
-        let m : _ = datagram-passed d n e in
+        let m : _ = datagram-passed reduced d n e in
         rw (m .0, lt-ltb (length rows) (10 * length (datagramItems d)) (omega (arith, m .1))) (refl, refl)
 
     pub rows-filled :
         10 * n ≤ length rows
-        → (Count.Items n ≡ rowsAnswer d rows) × (put rows 0 (datagramItems d) ≡ rowsAfter d rows)
+        → (Count.Items n ≡ rowsAnswer reduced d rows) × (put rows 0 (datagramItems d) ≡ rowsAfter reduced d rows)
     unfolding rowsAnswer rowsAfter
     rows-filled h =
-        let m : _ = datagram-passed d n e in
+        let m : _ = datagram-passed reduced d n e in
         rw (m .0, le-ltb (length rows) (10 * length (datagramItems d)) (omega (arith, m .1)))
         (ap Count.Items (m .1), puts-front rowOf 10 length-rowOf (datagramItems d) rows (omega (arith, m .1)))
 

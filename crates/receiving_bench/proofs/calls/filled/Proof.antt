@@ -5,10 +5,10 @@ use Rattle.receiving_bench.proofs.calls.filled.Statement.{statement}
 use Rattle.receiving_bench.proofs.calls.filled.Tie as tie
 
 abbrev Inv-loop : tie.InvT-loop
-Inv-loop first last reading a₀ source₀ a source = Unit
+Inv-loop first last reading reduced a₀ source₀ a source = Unit
 
 abbrev μ-loop : tie.MeasureT-loop
-μ-loop first last reading a₀ source₀ a source = last - source
+μ-loop first last reading reduced a₀ source₀ a source = last - source
 
 loop-holds : tie.Need-loop-holds Inv-loop μ-loop
 loop-holds c = search needs

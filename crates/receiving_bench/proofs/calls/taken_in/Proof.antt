@@ -5,10 +5,10 @@ use Rattle.receiving_bench.proofs.calls.taken_in.Statement.{statement}
 use Rattle.receiving_bench.proofs.calls.taken_in.Tie as tie
 
 abbrev Inv-loop : tie.InvT-loop
-Inv-loop d count origin reading a₀ i₀ a i = Unit
+Inv-loop d reduced count origin reading a₀ i₀ a i = Unit
 
 abbrev μ-loop : tie.MeasureT-loop
-μ-loop d count origin reading a₀ i₀ a i = count - i
+μ-loop d reduced count origin reading a₀ i₀ a i = count - i
 
 loop-holds : tie.Need-loop-holds Inv-loop μ-loop
 loop-holds c = search needs

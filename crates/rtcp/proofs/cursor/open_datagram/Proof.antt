@@ -16,17 +16,21 @@ enum-known-n c = search needs
 
 returns : tie.Need-returns
 returns c =
-    let d = c .before .before .before .before .before .args .d .now in
+    let args = c .before .before .before .before .before .args in
+    let reduced = args .reduced in
+    let d = args .d .now in
     let r = c .before .r in
     let count-items = c .before .before .before .count-items in
-    sym (cursor-refused d (r .given .0 .0) (sym (count-items .ensures) ∙ r .given .1))
+    sym (cursor-refused reduced d (r .given .0 .0) (sym (count-items .ensures) ∙ r .given .1))
 
 returns-2 : tie.Need-returns-2
 returns-2 c =
-    let d = c .before .before .before .before .before .args .d .now in
+    let args = c .before .before .before .before .before .args in
+    let reduced = args .reduced in
+    let d = args .d .now in
     let n = c .before .n in
     let count-items = c .before .before .before .count-items in
-    sym (cursor-passed d (n .given .0 .0) (sym (count-items .ensures) ∙ n .given .1))
+    sym (cursor-passed reduced d (n .given .0 .0) (sym (count-items .ensures) ∙ n .given .1))
 
 pub open-datagram-spec : {M : Type 1} → statement M
 open-datagram-spec =

@@ -4,6 +4,7 @@ use native.Mathlib.Omega.{arith}
 use borrow.Author.Needs.{needs}
 use Rattle.idms.specs.declared.Found.{Found}
 use Rattle.datagram.proofs.Laws.Answers.{datagram-passed, datagram-refused}
+use Rattle.datagram.proofs.Theorems.{passes-agreed}
 use Rattle.rtcp.proofs.Laws.Answers.{item-refused, item-past, item-there}
 use Rattle.rtcp.proofs.item.item_at.Statement.{statement}
 use Rattle.rtcp.proofs.item.item_at.Tie as tie
@@ -19,38 +20,46 @@ enum-known-n c = search needs
 
 returns : tie.Need-returns
 returns c =
-    let d = c .before .before .before .before .before .before .args .d .now in
+    let args = c .before .before .before .before .before .before .args in
+    let reduced = args .reduced in
+    let d = args .d .now in
     let n = c .before .before .n in
     let count-items = c .before .before .before .before .count-items in
-    let index = c .before .before .before .before .before .before .args .index in
-    let m : _ = datagram-passed d (n .given .0 .0) (sym (count-items .ensures) ∙ n .given .1) in
-    sym (item-past d index (m .0) (omega (arith, m .1)))
+    let index = args .index in
+    let m : _ = datagram-passed reduced d (n .given .0 .0) (sym (count-items .ensures) ∙ n .given .1) in
+    sym (item-past reduced d index (m .0) (omega (arith, m .1)))
 
 nth-item-requires : tie.Need-nth-item-requires
 nth-item-requires c κs =
-    let d = c .before .before .before .before .before .before .args .d .now in
+    let args = c .before .before .before .before .before .before .args in
+    let reduced = args .reduced in
+    let d = args .d .now in
     let n = c .before .before .n in
     let count-items = c .before .before .before .before .count-items in
-    let m : _ = datagram-passed d (n .given .0 .0) (sym (count-items .ensures) ∙ n .given .1) in
-    (m .0, omega (arith, m .1))
+    let m : _ = datagram-passed reduced d (n .given .0 .0) (sym (count-items .ensures) ∙ n .given .1) in
+    (passes-agreed reduced d (m .0), omega (arith, m .1))
 
 returns-2 : tie.Need-returns-2
 returns-2 c =
-    let d = c .before .before .before .before .before .args .d .now in
-    let index = c .before .before .before .before .before .args .index in
+    let args = c .before .before .before .before .before .args in
+    let reduced = args .reduced in
+    let d = args .d .now in
+    let index = args .index in
     let r = c .before .r in
     let count-items = c .before .before .before .count-items in
-    sym (item-refused d index _ _ (datagram-refused d (r .given .0 .0) (sym (count-items .ensures) ∙ r .given .1)))
+    sym (item-refused reduced d index _ _ (datagram-refused reduced d (r .given .0 .0) (sym (count-items .ensures) ∙ r .given .1)))
 
 returns-3 : tie.Need-returns-3
 returns-3 c =
-    let d = c .before .before .before .before .before .before .before .args .d .now in
+    let args = c .before .before .before .before .before .before .before .args in
+    let reduced = args .reduced in
+    let d = args .d .now in
     let n = c .before .before .before .n in
     let count-items = c .before .before .before .before .before .count-items in
     let nth-item = c .nth-item in
-    let index = c .before .before .before .before .before .before .before .args .index in
-    let m : _ = datagram-passed d (n .given .0 .0) (sym (count-items .ensures) ∙ n .given .1) in
-    ap Found.Item (nth-item .ensures) ∙ sym (item-there d index (m .0) (omega (arith, m .1)))
+    let index = args .index in
+    let m : _ = datagram-passed reduced d (n .given .0 .0) (sym (count-items .ensures) ∙ n .given .1) in
+    ap Found.Item (nth-item .ensures) ∙ sym (item-there reduced d index (m .0) (omega (arith, m .1)))
 
 pub item-at-spec : {M : Type 1} → statement M
 item-at-spec =

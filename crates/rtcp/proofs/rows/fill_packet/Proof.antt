@@ -10,9 +10,9 @@ use Rattle.idms.specs.Rows.{rowOf}
 use Rattle.idms.specs.declared.Item.{Item}
 use Rattle.idms.specs.declared.Settings.{Settings}
 use Rattle.packet.specs.Contents.{contents}
-use Rattle.datagram.proofs.Laws.Datagram.{head-of-packet, items-of, check-of}
-use Rattle.packet.proofs.Laws.Contents.{holds, held-sources, packet-passed, settings-read, settings-not-outside}
-use Rattle.packet.proofs.Laws.Packet.{head-passed}
+use Rattle.datagram.specs.Datagram.{partsCheck}
+use Rattle.datagram.proofs.Laws.Datagram.{items-of}
+use Rattle.packet.proofs.Laws.Contents.{holds, held-sources, readable-packet, packet-read, settings-read, settings-not-outside}
 use Rattle.rtcp.proofs.rows.fill_packet.Statement.{statement}
 use Rattle.rtcp.proofs.rows.fill_packet.Tie as tie
 
@@ -28,12 +28,11 @@ fill-sources-requires c κs =
     let d = b .args .d .now in
     let p = b .args .p in
     let e : contents d p ≡ _ = sym (b .pre .0) ∙ c .before .before .x .given .1 in
-    let h : _ = head-of-packet d p (b .pre .1) in
-    let k : _ = head-passed d p h in
+    let k : _ = readable-packet d p (b .pre .1) in
     let w : _ = held-sources d p _ _ _ (rw e at (holds d p k)) in (
       omega (arith, w .1, w .2, k .fits, k .inside),
       omega (arith, w .0, w .1),
-      rw (items-of d p e) at (b .pre .2),
+      rw (items-of d p e) at (b .pre .3),
     )
 
 enum-known-x-2 : tie.Need-enum-known-x-2
@@ -45,8 +44,8 @@ fill-blocks-requires c κs =
     let d = b .args .d .now in
     let p = b .args .p in
     let e : contents d p ≡ _ = sym (b .pre .0) ∙ c .before .before .x2 .given .1 in (
-      sym (check-of d p e (head-of-packet d p (b .pre .1))) ∙ b .pre .1,
-      rw (items-of d p e) at (b .pre .2),
+      sym (ap (partsCheck d) (c .before .before .x2 .given .1)) ∙ b .pre .2,
+      rw (items-of d p e) at (b .pre .3),
     )
 
 enum-told-2 : tie.Need-enum-told-2
@@ -68,7 +67,7 @@ put-row-requires c κs =
     let d = b .args .d .now in
     let p = b .args .p in
     let e : contents d p ≡ _ = sym (b .pre .0) ∙ t .enum-told2 .given .1 in
-    omega (arith, b .pre .2, ap length (items-of d p e))
+    omega (arith, b .pre .3, ap length (items-of d p e))
 
 add-result : tie.Need-add-result
 add-result c = search needs
@@ -114,7 +113,7 @@ returns-4 c =
     let p = b .args .p in
     let e : contents d p ≡ _ = sym (b .pre .0) ∙ t .enum-told2 .given .1 in
     absurd
-    (settings-not-outside d p _ (packet-passed d p (head-of-packet d p (b .pre .1)) ∙ e)
+    (settings-not-outside d p _ (packet-read d p (b .pre .1) ∙ e)
     (sym (c .before .before .settings-at .ensures) ∙ c .enum-told3 .given .1))
 
 same-length-3 : tie.Need-same-length-3
@@ -129,7 +128,7 @@ returns-5 c =
     let p = b .args .p in
     let e : contents d p ≡ _ = sym (b .pre .0) ∙ t .enum-told2 .given .1 in
     let f : _ =
-    settings-read d p _ (packet-passed d p (head-of-packet d p (b .pre .1)) ∙ e) _
+    settings-read d p _ (packet-read d p (b .pre .1) ∙ e) _
     (sym (s .before .before .settings-at .ensures) ∙ s .s .given .1) in
     let row : Settings → List ℕ = λ x. rowOf (record { place = p; item = Item.Settings x }) in
     rw (items-of d p e) (

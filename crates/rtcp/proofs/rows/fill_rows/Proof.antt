@@ -1,16 +1,17 @@
 -- The rows of the packets in turn, while rows are missing. The measure is what is left of the datagram.
-use Prim.Native.Nat.{_+_, _-_, _≤_}
+use Prim.Native.Nat.{_+_, _-_}
 use mathlib.Core.Path.{_≡_, ap, _∙_}
+use mathlib.Core.Bool.{true}
 use lib.ListN.{length, length-append}
 use native.Mathlib.Omega.{arith}
 use borrow.Author.Needs.{needs}
-use Rattle.datagram.specs.Datagram.{packetItems, packetsCheck, packetsItems, datagramItems}
+use Rattle.datagram.specs.Datagram.{partsCheck, packetItems, packetsCheck, packetsItems, datagramItems}
 use Rattle.packet.specs.Checks.{passed}
 use Rattle.packet.specs.Contents.{contents}
 use Rattle.packet.specs.Packet.{size}
 use Rattle.rtcp.specs.Rows.{behind}
 use Rattle.datagram.proofs.Laws.Datagram.{packets-turn}
-use Rattle.packet.proofs.Laws.Contents.{packet-passed}
+use Rattle.packet.proofs.Laws.Contents.{known-readable, packet-known}
 use Rattle.rtcp.proofs.Laws.Cursor.{start-good}
 use Rattle.rtcp.proofs.Laws.Rows.{Filling, filling-start, filling-part, filling-end, packets-left, none-left, behind-contents}
 use Rattle.rtcp.proofs.rows.fill_rows.Statement.{statement}
@@ -18,7 +19,7 @@ use Rattle.rtcp.proofs.rows.fill_rows.Tie as tie
 
 abbrev Inv-loop : tie.InvT-loop
 Inv-loop d rows₀ n end p₀ cell₀ rows p cell =
-    (packetsCheck d p ≡ passed) × Filling rows₀ 0 (datagramItems d) rows cell (packetsItems d p)
+    (packetsCheck true d p ≡ passed) × Filling rows₀ 0 (datagramItems d) rows cell (packetsItems d p)
 
 abbrev μ-loop : tie.MeasureT-loop
 μ-loop d rows₀ n end p₀ cell₀ rows p cell = length d - p
@@ -45,10 +46,12 @@ fill-packet-requires c κs =
     let l : _ =
     packets-left d (s .args .rows .now) (b .loop .rows) (b .loop .cell) p (s .args .n) (b .loop .inv .1) (s .pre .1)
     (c .before .before .loop-test .taken) in
-    let t : _ = packets-turn d p l (b .loop .inv .0) in
-    let n : _ = ap length (t .items) ∙ length-append (packetItems d p) (packetsItems d (p + size d p)) in (
-      c .before .packet-at .ensures ∙ packet-passed d p (t .head),
-      t .check,
+    let t : _ = packets-turn true d p l (b .loop .inv .0) in
+    let n : _ = ap length (t .items) ∙ length-append (packetItems d p) (packetsItems d (p + size d p)) in
+    let x : c .before .packet-at .result ≡ contents d p = c .before .packet-at .ensures ∙ packet-known d p (t .known) in (
+      x,
+      known-readable d p (t .known),
+      ap (partsCheck d) x ∙ t .parts,
       omega (arith, n, b .loop .inv .1 .cells, b .loop .inv .1 .long, s .pre .1, s .pre .2),
     )
 
@@ -64,9 +67,9 @@ loop-less c =
     let l : _ =
     packets-left d (s .args .rows .now) (b .loop .rows) (b .loop .cell) p (s .args .n) (b .loop .inv .1) (s .pre .1)
     (c .before .before .before .before .before .before .loop-test .taken) in
-    let t : _ = packets-turn d p l (b .loop .inv .0) in
+    let t : _ = packets-turn true d p l (b .loop .inv .0) in
     let x : c .before .before .before .before .before .packet-at .result ≡ contents d p =
-    c .before .before .before .before .before .packet-at .ensures ∙ packet-passed d p (t .head) in
+    c .before .before .before .before .before .packet-at .ensures ∙ packet-known d p (t .known) in
     let b′ : c .next-place .result ≡ p + size d p =
     c .next-place .ensures ∙ ap behind x ∙ behind-contents d p (t .known) in
     omega (arith, l, b′)
@@ -80,9 +83,9 @@ loop-again c =
     let l : _ =
     packets-left d (s .args .rows .now) (b .loop .rows) (b .loop .cell) p (s .args .n) (b .loop .inv .1) (s .pre .1)
     (c .before .before .before .before .before .before .loop-test .taken) in
-    let t : _ = packets-turn d p l (b .loop .inv .0) in
+    let t : _ = packets-turn true d p l (b .loop .inv .0) in
     let x : c .before .before .before .before .before .packet-at .result ≡ contents d p =
-    c .before .before .before .before .before .packet-at .ensures ∙ packet-passed d p (t .head) in
+    c .before .before .before .before .before .packet-at .ensures ∙ packet-known d p (t .known) in
     let b′ : c .next-place .result ≡ p + size d p =
     c .next-place .ensures ∙ ap behind x ∙ behind-contents d p (t .known) in
     let f = c .before .before .before in
