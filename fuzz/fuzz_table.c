@@ -22,18 +22,73 @@ enum call { OPEN, FILE_REPORT, SAY_FAREWELL, SWEEP, CHOOSE, TAKE_DATAGRAM, CALLS
 
 static const char *const call_names[CALLS] = {"open", "report", "farewell", "sweep", "choose", "take_datagram"};
 
-/* What the fuzzer is told beside the branches: answers by call, rows, and how a target came about. */
+/* What is told apart at a step of 0: the low 16 bits of received, which other steps clear. */
+enum low_bits { LOW_0, LOW_1, LOW_65535, LOW_OTHER, ALL_ONES, LOW_BITS };
+
+static const char *const low_bits_names[LOW_BITS] = {"low bits 0", "low bits 1", "low bits 65535", "other low bits",
+                                                     "all ones"};
+
+/* What the fuzzer is told beside the branches: answers by call, at a step of 0, rows, and how a target came about. */
 enum {
-    BY_ROWS = CALLS * NUMBERS,
+    BY_LOW_BITS = CALLS * NUMBERS,
+    BY_ROWS = BY_LOW_BITS + LOW_BITS * NUMBERS,
     BY_COUNTED = BY_ROWS + 65,
-    BY_TIES = BY_COUNTED + 2 * 65,
-    COUNTERS = BY_TIES + 2 * 65
+    BY_TIES = BY_COUNTED + 3 * 65,
+    COUNTERS = BY_TIES + 3 * 65
 };
 __attribute__((section("__libfuzzer_extra_counters"))) static uint8_t counters[COUNTERS];
 
 /* What was met since the start. */
 static uint64_t met[CALLS][NUMBERS];
 static uint64_t looks, ties[2], targets[2], replaced, swept, most_rows, reduced;
+
+/* Reports, by calls and in datagrams; those with P 1 and a step of 0; the targets among these. */
+static uint64_t reports, at_step_0[LOW_BITS][NUMBERS], wired, wired_ties;
+
+/* Below so many reports, as where one input is run, a share says nothing. */
+#define ENOUGH_REPORTS 10000
+
+static uint64_t count_step_0(size_t low_bits)
+{
+    uint64_t count = 0;
+
+    for (size_t number = 0; number < NUMBERS; number++)
+        count += at_step_0[low_bits][number];
+    return count;
+}
+
+/* A line for what a run of ENOUGH_REPORTS must meet more often, on which tools/fuzz fails. */
+static void at_least(const char *what, uint64_t count, uint64_t least)
+{
+    if (reports >= ENOUGH_REPORTS && count < least)
+        fprintf(stderr, "too rare: %s: %" PRIu64 ", at least %" PRIu64 "\n", what, count, least);
+}
+
+static void print_step_0(void)
+{
+    uint64_t all = 0, accepted = 0, refused = 0;
+
+    for (size_t i = 0; i < LOW_BITS; i++) {
+        all += count_step_0(i);
+        accepted += at_step_0[i][0];
+        refused += at_step_0[i][17];
+    }
+    double share = reports > 0 ? 100.0 * (double)all / (double)reports : 0.0;
+    fprintf(stderr, "step 0: %" PRIu64 " of %" PRIu64 " reports, %.1f %%; %" PRIu64 " accepted, %" PRIu64
+                    " refused with 17; targets: %" PRIu64 ", %" PRIu64 " among equals\n",
+            all, reports, share, accepted, refused, wired, wired_ties);
+    fputs("step 0, received:", stderr);
+    for (size_t i = 0; i < LOW_BITS; i++)
+        fprintf(stderr, " %s %" PRIu64 ";", low_bits_names[i], count_step_0(i));
+    fputs("\n", stderr);
+
+    at_least("step 0", all, reports / 10);
+    at_least("step 0, accepted", accepted, reports / 100);
+    at_least("step 0, refused with 17", refused, reports / 10000);
+    at_least("step 0, targets", wired, reports / 1000);
+    for (size_t i = 0; i < LOW_BITS; i++)
+        at_least(low_bits_names[i], count_step_0(i), reports / 1000);
+}
 
 static void print_met(void)
 {
@@ -47,6 +102,7 @@ static void print_met(void)
     fprintf(stderr, "targets: %" PRIu64 " by presentation, %" PRIu64 " among equals; %" PRIu64 " by arrival, %" PRIu64
                     " among equals\n",
             targets[0], ties[0], targets[1], ties[1]);
+    print_step_0();
     fprintf(stderr, "reports replaced: %" PRIu64 "; members swept: %" PRIu64 "; at most %" PRIu64
                     " members; looks at all members: %" PRIu64 "\n",
             replaced, swept, most_rows, looks);
@@ -191,12 +247,40 @@ static bool open_both(struct sides *sides, uint32_t group, uint32_t media, uint3
     return true;
 }
 
+static enum low_bits low_bits_of(uint64_t received)
+{
+    if (received == UINT64_MAX)
+        return ALL_ONES;
+    switch (received % 65536) {
+    case 0:
+        return LOW_0;
+    case 1:
+        return LOW_1;
+    case 65535:
+        return LOW_65535;
+    default:
+        return LOW_OTHER;
+    }
+}
+
+static void tally_report(const struct told *report, unsigned number)
+{
+    reports++;
+    if (report->p != 0 && register_same_slot(report)) {
+        enum low_bits low_bits = low_bits_of(report->received);
+
+        at_step_0[low_bits][number]++;
+        counters[BY_LOW_BITS + low_bits * NUMBERS + number] = 1;
+    }
+}
+
 /* The register's number for a report. A new row's member should stand at the lowest free place. */
 static unsigned report_expected(struct sides *sides, const struct row *row, struct clocks now)
 {
     bool known = register_row(&sides->rows, row->source) != NULL;
     unsigned number = register_report(&sides->rows, row, now);
 
+    tally_report(&row->report, number);
     if (number == 0 && known)
         replaced++;
     if (number == 0 && !known) {
@@ -252,6 +336,23 @@ static void sweep_both(struct sides *sides, struct clocks now)
     take(sides, SWEEP, &answered, 0);
 }
 
+static void tally_choice(const struct choice *choice)
+{
+    int mode = choice->by_arrival ? 1 : 0;
+    int told = choice->same_slot ? 2 : mode;
+
+    met[CHOOSE][choice->number]++;
+    counters[CHOOSE * NUMBERS + choice->number] = 1;
+    if (choice->number != 0)
+        return;
+    targets[mode]++;
+    ties[mode] += choice->equally_late > 0;
+    wired += choice->same_slot != 0;
+    wired_ties += choice->same_slot && choice->equally_late > 0;
+    counters[BY_COUNTED + 65 * told + choice->counted] = 1;
+    counters[BY_TIES + 65 * told + choice->equally_late] = 1;
+}
+
 static void choose_both(struct sides *sides, struct clocks now)
 {
     struct prunepocket_reading reading = {.ntp = now.n, .rtp = now.r};
@@ -259,16 +360,7 @@ static void choose_both(struct sides *sides, struct clocks now)
     struct prunepocket_followed followed = prunepocket_choose(sides->table, reading);
 
     sides->calls++;
-    met[CHOOSE][expected.number]++;
-    counters[CHOOSE * NUMBERS + expected.number] = 1;
-    if (expected.number == 0) {
-        int mode = expected.by_arrival ? 1 : 0;
-
-        targets[mode]++;
-        ties[mode] += expected.equally_late > 0;
-        counters[BY_COUNTED + 65 * mode + expected.counted] = 1;
-        counters[BY_TIES + 65 * mode + expected.equally_late] = 1;
-    }
+    tally_choice(&expected);
     same("choose", followed.number, expected.number);
     same("source of the target", followed.target.source, expected.source);
     same("group of the target", followed.target.group, expected.group);
@@ -438,10 +530,9 @@ static uint64_t beside(struct script *script, uint64_t limit, uint8_t scale, uin
     }
 }
 
-static uint64_t ntp_age(struct script *script)
+/* By a byte that was read already. */
+static uint64_t ntp_age_said(struct script *script, uint8_t said)
 {
-    uint8_t said = byte(script);
-
     switch (said & 7) {
     case 0:
     case 1:
@@ -457,6 +548,36 @@ static uint64_t ntp_age(struct script *script)
         return number(script, 5);
     default:
         return number(script, 8);
+    }
+}
+
+static uint64_t ntp_age(struct script *script)
+{
+    return ntp_age_said(script, byte(script));
+}
+
+/*
+ * Received by its age. The top bits of the age's byte aim at the edges of a step of 0: the low 16 bits, and all ones,
+ * where the clock moves so that the age is as said.
+ */
+static uint64_t received_time(struct script *script, struct clocks *now)
+{
+    uint8_t said = byte(script);
+    uint64_t age = ntp_age_said(script, said);
+    uint64_t slot = (now->n - age) / 65536 * 65536;
+
+    switch (said >> 5) {
+    case 4:
+        return slot;
+    case 5:
+        return slot + 1;
+    case 6:
+        return slot + 65535;
+    case 7:
+        now->n = UINT64_MAX + age;
+        return UINT64_MAX;
+    default:
+        return now->n - age;
     }
 }
 
@@ -482,11 +603,14 @@ static uint32_t rtp_age(struct script *script, uint32_t rate)
     }
 }
 
+/* From 160 on the step is 0. */
 static uint32_t presented(struct script *script, uint64_t received)
 {
     uint8_t said = byte(script);
     uint32_t middle = (uint32_t)(received >> 16);
 
+    if (said >= 160)
+        return middle;
     switch (said & 7) {
     case 0:
     case 1:
@@ -649,6 +773,26 @@ static void arrive(struct script *script, const struct told *report, struct arri
         arrival->bytes[changed] ^= bits;
 }
 
+/* Many sources report alike, or each a slot later than the one before; from 64 on every second with P 1 and step 0. */
+static void report_alike(struct script *script, struct sides *sides, uint8_t said, const struct told *report,
+                         struct clocks now)
+{
+    uint32_t from = source(script);
+    uint8_t many = byte(script) % 70;
+    struct row row = {.origin = origin(script)};
+
+    for (uint32_t i = 0; i < many && sides->calls < MOST_CALLS; i++) {
+        row.source = from + i;
+        row.report = *report;
+        row.report.presented += said & 16 ? i : 0;
+        if (said >= 64 && i % 2 == 1) {
+            row.report.p = 1;
+            row.report.presented = (uint32_t)(report->received >> 16);
+        }
+        report_both(sides, &row, now);
+    }
+}
+
 static void call_script(struct script *script, struct sides *sides)
 {
     static struct arrival arrival;
@@ -666,7 +810,7 @@ static void call_script(struct script *script, struct sides *sides)
             row.source = source(script);
             row.origin = origin(script);
             describe(script, sides, &report);
-            report.received = now.n - ntp_age(script);
+            report.received = received_time(script, &now);
             report.rtp = now.r - rtp_age(script, sides->rows.rate);
             report.presented = presented(script, report.received);
             row.report = report;
@@ -690,19 +834,9 @@ static void call_script(struct script *script, struct sides *sides)
             report_both(sides, &row, now);
             break;
         }
-        case 4: /* many sources report alike */
-        {
-            uint32_t from = source(script);
-            uint8_t many = byte(script) % 70;
-            row.origin = origin(script);
-            for (uint32_t i = 0; i < many && sides->calls < MOST_CALLS; i++) {
-                row.source = from + i;
-                row.report = report;
-                row.report.presented += said & 16 ? i : 0;
-                report_both(sides, &row, now);
-            }
+        case 4:
+            report_alike(script, sides, said, &report, now);
             break;
-        }
         case 5: {
             uint32_t from = source(script);
             struct from its = origin(script);

@@ -6,9 +6,13 @@
 /*
  * A fault to be planted, which the comparison must then find:
  * 1: among equally late members the row that was made first is chosen
- * 2: a step of 0 is read as 0
+ * 2: a step of 0 is read as a full turn, 2^32
  * 3: the last byte of the port is not looked at
  * 4: an RTP age of 60 seconds exactly is refused
+ * 5: at a step of 0 the delay is 0
+ * 6: at a step of 0 the expanded presentation is received
+ * 7: at a step of 0 the plus one does not wrap
+ * 8: at a step of 0 the low 16 bits of received are cleared
  */
 #ifndef REGISTER_FAULT
 #define REGISTER_FAULT 0
@@ -36,20 +40,46 @@ static bool fresh(const struct plain_register *rows, const struct told *report, 
     return !far(report->received, now) && !aged(report->rtp, now, rows->rate);
 }
 
-/* Expanded, before wrapping. */
-static whole presentation(const struct told *report)
+static uint32_t step(const struct told *report)
 {
     uint32_t middle = (uint32_t)(report->received >> 16);
-    uint64_t step = (uint32_t)(report->presented - middle);
 
-    if (step == 0 && REGISTER_FAULT != 2)
-        step = (uint64_t)1 << 32;
-    return (whole)(report->received - report->received % 65536) + (whole)step * 65536;
+    return report->presented - middle;
+}
+
+int register_same_slot(const struct told *report)
+{
+    return step(report) == 0;
+}
+
+/* Expanded, before wrapping. At a step of 0 it is one unit after received, whose low bits then count. */
+static whole presentation(const struct told *report)
+{
+    uint64_t start = report->received - report->received % 65536;
+    uint64_t steps = step(report);
+
+    if (steps == 0 && REGISTER_FAULT == 2)
+        steps = (uint64_t)1 << 32;
+    if (steps == 0)
+        return (whole)(REGISTER_FAULT == 8 ? start : report->received) + 1;
+    return (whole)start + (whole)steps * 65536;
 }
 
 static whole delay(const struct told *report)
 {
+    if (REGISTER_FAULT == 5 && step(report) == 0)
+        return 0;
     return presentation(report) - (whole)report->received;
+}
+
+/* Modulo 2^64. */
+static uint64_t expanded(const struct told *report)
+{
+    if (REGISTER_FAULT == 6 && step(report) == 0)
+        return report->received;
+    if (REGISTER_FAULT == 7 && step(report) == 0 && report->received == UINT64_MAX)
+        return UINT64_MAX;
+    return (uint64_t)presentation(report);
 }
 
 static whole lateness(const struct plain_register *rows, const struct told *report, bool by_arrival,
@@ -106,7 +136,7 @@ unsigned register_report(struct plain_register *rows, const struct row *row, str
         return 15;
     if (aged(report->rtp, now, rows->rate))
         return 16;
-    if (report->p && (delay(report) > (whole)(30 * SECOND) || (uint64_t)presentation(report) == 0))
+    if (report->p && (delay(report) > (whole)(30 * SECOND) || expanded(report) == 0))
         return 17;
     if (!before && rows->count == MOST_ROWS)
         return 18;
@@ -178,7 +208,8 @@ struct choice register_choose(const struct plain_register *rows, struct clocks n
     choice.media = chosen->report.media;
     choice.received = chosen->report.received;
     choice.rtp = chosen->report.rtp;
-    choice.presented = by_arrival ? 0 : (uint64_t)presentation(&chosen->report);
+    choice.presented = by_arrival ? 0 : expanded(&chosen->report);
     choice.by_arrival = by_arrival;
+    choice.same_slot = !by_arrival && register_same_slot(&chosen->report);
     return choice;
 }

@@ -1,6 +1,7 @@
 /*
- * The plain register and choosing, written from document 01 alone. It is fed the
- * calls' arguments and nothing from the table that it is compared with.
+ * The plain register and choosing, written from document 01 and E3 of document 02
+ * alone. It is fed the calls' arguments and nothing from the table that it is
+ * compared with.
  */
 #ifndef FUZZ_REGISTER_H
 #define FUZZ_REGISTER_H
@@ -60,6 +61,7 @@ struct choice {
     /* Not of the answer, but of how it came: for the tally of what was met. */
     uint32_t equally_late;
     int by_arrival;
+    int same_slot;
 };
 
 /* Each answers the refusal's number, or 0. */
@@ -69,6 +71,9 @@ unsigned register_farewell(struct plain_register *rows, uint32_t source, const s
 void register_sweep(struct plain_register *rows, struct clocks now);
 
 struct choice register_choose(const struct plain_register *rows, struct clocks now);
+
+/* Whether a report, where P is 1, says presented in the slot of 2^-16 s in which it was received: the step is 0. */
+int register_same_slot(const struct told *report);
 
 /* The row of a source number, or null. */
 const struct row *register_row(const struct plain_register *rows, uint32_t source);

@@ -343,6 +343,10 @@ struct prunepocket_answered prunepocket_open(uint32_t group, uint32_t media, uin
  * the reading's, or more than 60 seconds of media clock before it; 17 where P is
  * 1 and it is presented more than 30 s after it was received, or at the full
  * time 0; 18 where it is a new member's and all places are held. All times wrap.
+ * Where P is 1, presented is bits 16 to 47 of a full time, the number of a slot
+ * of 2^-16 s. It stands for the start of the next slot of that number after
+ * received; where received itself lies in a slot of that number, as at a wired
+ * loudspeaker, it stands for received plus one unit of 2^-32 s.
  */
 struct prunepocket_answered prunepocket_report(struct prunepocket_table table,
                                                struct prunepocket_record record,

@@ -79,23 +79,24 @@ impl Report {
         reading.rtp.wrapping_sub(self.rtp)
     }
 
-    /// (presented - M) modulo 2^32, M being bits 16 to 47 of received; 0 is read as 2^32.
-    fn step(&self) -> u64 {
+    /// (presented - M) modulo 2^32, M being bits 16 to 47 of received.
+    fn step(&self) -> u32 {
         let middle = (self.received >> 16) as u32;
-        match self.presented.wrapping_sub(middle) {
-            0 => 1 << 32,
-            step => u64::from(step),
+        self.presented.wrapping_sub(middle)
+    }
+
+    /// Expanded minus received before wrapping, at least 1 and below 2^48. A step of 0 is one unit,
+    /// and any other counts from received with its low 16 bits cleared.
+    fn delay(&self) -> u64 {
+        match self.step() {
+            0 => 1,
+            step => (u64::from(step) << 16) - (self.received & 0xFFFF),
         }
     }
 
-    /// The expanded presentation: received with its low 16 bits cleared, plus step x 2^16.
+    /// The expanded presentation: the delay after received, modulo 2^64.
     fn expanded(&self) -> u64 {
-        (self.received & !0xFFFF).wrapping_add(self.step() << 16)
-    }
-
-    /// Expanded minus received before wrapping: from 1 to 2^48, since the step is at least 1.
-    fn delay(&self) -> u64 {
-        (self.step() << 16) - (self.received & 0xFFFF)
+        self.received.wrapping_add(self.delay())
     }
 
     /// Refusal 15: received is not within 30 s at or before the reading.

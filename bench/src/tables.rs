@@ -35,6 +35,13 @@ fn record(source: u32) -> peer::Record {
     }
 }
 
+/// The same, presented in the slot of 2^-16 s in which it was received.
+fn wired_record(source: u32) -> peer::Record {
+    let mut record = record(source);
+    record.report.presented = (record.report.received >> 16) as u32;
+    record
+}
+
 /// Both tables with members 1 to `members`.
 struct Pair {
     ours: Table,
@@ -77,11 +84,22 @@ impl Pair {
 
 /// A report of a member, or of the first source where there is none. It stays.
 fn time_report(members: u32) -> (f64, f64) {
+    time_report_of(members, record)
+}
+
+/// The same with a report of step 0.
+fn time_wired_report(members: u32) -> (f64, f64) {
+    time_report_of(members, wired_record)
+}
+
+fn time_report_of(members: u32, make: fn(u32) -> peer::Record) -> (f64, f64) {
+    let known = make(members.max(1));
+    let mut pair = Pair::with(members);
+    assert_eq!(pair.report(&known, &READING), 0);
     let Pair {
         mut ours,
         mut peers,
-    } = Pair::with(members);
-    let known = record(members.max(1));
+    } = pair;
     let told = Record::from(&known);
     interleaved(
         1,
@@ -171,9 +189,10 @@ pub fn print() {
         "{:<32}{:>8}{:>10}{:>10}{:>12}",
         "member table", "members", "ours ns", "peer ns", "ours/peer"
     );
-    let calls: [(&str, fn(u32) -> (f64, f64)); 5] = [
+    let calls: [(&str, fn(u32) -> (f64, f64)); 6] = [
         ("copy of the table", time_copy),
         ("report", time_report),
+        ("report, wired", time_wired_report),
         ("farewell, refused", time_refused_farewell),
         ("sweep", time_sweep),
         ("choose", time_choose),

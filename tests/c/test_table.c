@@ -1,8 +1,8 @@
 /*
  * Calls every function of the member table in prunepocket.h. Holds each struct of C to the bytes
- * that the archive writes, answers to what document 01 says at the limits, and each table after a
- * refusal to the one before, field by field, padding aside. The table's own fields are looked at
- * here alone: a host does not. The papers' cases are in test_scenes.c.
+ * that the archive writes, answers to what documents 01 and 02 (E3) say at the limits, and each
+ * table after a refusal to the one before, field by field, padding aside. The table's own fields
+ * are looked at here alone: a host does not. The papers' cases are in test_scenes.c.
  */
 #include "members.h"
 
@@ -964,31 +964,38 @@ static void test_reading_limits(void)
     }
 }
 
+/* The full time that a step stands for: 0 is one unit after received, others start a slot. */
+static uint64_t full_time(uint64_t received, uint32_t step)
+{
+    return step == 0 ? received + 1 : (received >> 16 << 16) + ((uint64_t)step << 16);
+}
+
 /* A report of source 10, received at some time and presented some 2^-16 s after its M. */
 static void step_gets(uint64_t received, uint32_t step, uint64_t number)
 {
     record_t record = record_10();
     reading_t reading = {received, 8910000};
     table_t table;
-    uint64_t full = (received >> 16 << 16) + ((uint64_t)step << 16);
 
     record.report.received = received;
     record.report.presented = (uint32_t)(received >> 16) + step;
     table = report(opened(), record, reading, number);
     if (number == PRUNEPOCKET_ACCEPTED)
-        check_equal("presented", choose(table, reading).presented, full);
+        check_equal("presented", choose(table, reading).presented, full_time(received, step));
 }
 
 static void test_presented_limits(void)
 {
     static const uint64_t times[] = {
-        0, 0xFFFF, SECONDS(999), SECONDS(999) + 0xFFFF, UINT64_C(1) << 63,
-        UINT64_MAX - SECONDS(40), UINT64_MAX,
+        0, 1, 0xFFFF, 0x10000, SECONDS(999), SECONDS(999) + 1, SECONDS(999) + 0xFFFF,
+        (UINT64_C(1) << 48) - 1, UINT64_C(1) << 48, UINT64_C(1) << 63, UINT64_MAX - SECONDS(40),
+        UINT64_MAX - 0xFFFF, UINT64_MAX - 1, UINT64_MAX,
     };
 
     CASE("presented times at the limits");
     for (size_t i = 0; i < LENGTH(times); i++) {
-        step_gets(times[i], 0, PRUNEPOCKET_BADLY_PRESENTED);
+        step_gets(times[i], 0,
+                  times[i] == UINT64_MAX ? PRUNEPOCKET_BADLY_PRESENTED : PRUNEPOCKET_ACCEPTED);
         step_gets(times[i], 2, PRUNEPOCKET_ACCEPTED);
         step_gets(times[i], SHORT_SECONDS(30), PRUNEPOCKET_ACCEPTED);
         step_gets(times[i], SHORT_SECONDS(30) + 1, PRUNEPOCKET_BADLY_PRESENTED);
@@ -997,16 +1004,193 @@ static void test_presented_limits(void)
 
     CASE("presented at the full time 0");
     step_gets(UINT64_MAX, 1, PRUNEPOCKET_BADLY_PRESENTED);
+    step_gets(UINT64_MAX - 0x10000, 0, PRUNEPOCKET_ACCEPTED);
+    step_gets(UINT64_MAX - 0x10000, 2, PRUNEPOCKET_BADLY_PRESENTED);
     step_gets(-SECONDS(30), SHORT_SECONDS(30), PRUNEPOCKET_BADLY_PRESENTED);
     step_gets(-SECONDS(30), SHORT_SECONDS(30) - 1, PRUNEPOCKET_ACCEPTED);
     step_gets(-SECONDS(29), SHORT_SECONDS(29) + 1, PRUNEPOCKET_ACCEPTED);
 }
 
+/* ---- Wired units: presented in the slot of 2^-16 s in which it was received ------------------ */
+
+/* A report of the unit of this number, presented in the slot in which it was received. */
+static record_t wired_at(uint8_t source, uint64_t received)
+{
+    return (record_t){source, unit(source),
+                      {received, GROUP, MEDIA, 8910000, (uint32_t)(received >> 16), 33, 1}};
+}
+
+/* Received at 999 s, presented 03E70000. */
+static record_t wired(uint8_t source)
+{
+    return wired_at(source, SECONDS(999));
+}
+
+/* The target where a wired unit is followed. */
+static target_t wired_target(uint8_t source, uint64_t received, uint32_t counted)
+{
+    return (target_t){source, GROUP, MEDIA, received, 8910000, received + 1, counted};
+}
+
+static void test_wired_unit(void)
+{
+    static const struct prunepocket_answer none;
+    static const uint64_t accepted[] = {PRUNEPOCKET_ACCEPTED};
+    uint8_t *packet = allocate(PRUNEPOCKET_REPORT_BYTES);
+    table_t table;
+    table_t taken;
+
+    CASE("received 999 s, presented 03E70000");
+    check_equal("the report's presented", wired(10).report.presented, 0x03E70000);
+    table = with_one(wired(10));
+    check_member(table, 0, wired(10));
+    check_target(choose(table, now), wired_target(10, SECONDS(999), 1));
+    check_true("presented is not empty", choose(table, now).presented != 0);
+    check_lateness(choose(table, now), RATE, now, RATE);
+
+    CASE("the same out of a datagram");
+    put_report(packet, wired(10));
+    taken = take(opened(), packet, PRUNEPOCKET_REPORT_BYTES, 1, 1, none, accepted, 1);
+    check_true("as the call", same_table(&taken, &table));
+    check_target(choose(taken, now), wired_target(10, SECONDS(999), 1));
+    free(packet);
+
+    CASE("a wired unit passes 17, where all places are held");
+    report(full_table(), wired(10), now, PRUNEPOCKET_NO_ROOM);
+
+    CASE("a wired unit that arrived at the reading, and a unit of 2^-32 s after it");
+    report(opened(), wired_at(10, now.ntp), now, PRUNEPOCKET_ACCEPTED);
+    report(opened(), wired_at(10, now.ntp + 1), now, PRUNEPOCKET_RECEIVED_FAR);
+}
+
+/* One unit after all ones is the full time 0. */
+static void test_wired_at_all_ones(void)
+{
+    static const reading_t behind_wrap = {SECONDS(1), 9000000};
+    record_t all_ones = wired_at(10, UINT64_MAX);
+    record_t next_slot = all_ones;
+    table_t table;
+
+    CASE("received FFFFFFFF FFFFFFFF, presented FFFFFFFF");
+    check_equal("the report's presented", all_ones.report.presented, UINT32_MAX);
+    report(opened(), all_ones, behind_wrap, PRUNEPOCKET_BADLY_PRESENTED);
+    table = report(with_two(record_10(), record_20()), all_ones, behind_wrap,
+                   PRUNEPOCKET_BADLY_PRESENTED);
+    check_member(table, 0, record_10());
+    check_target(choose(table, now), target_20);
+    report(full_table(), all_ones, behind_wrap, PRUNEPOCKET_BADLY_PRESENTED);
+
+    CASE("received a unit earlier");
+    table = report(opened(), wired_at(10, UINT64_MAX - 1), behind_wrap, PRUNEPOCKET_ACCEPTED);
+    check_target(choose(table, behind_wrap), wired_target(10, UINT64_MAX - 1, 1));
+
+    CASE("received FFFFFFFF FFFFFFFF, presented one slot and two slots later");
+    next_slot.report.presented = 0;
+    report(opened(), next_slot, behind_wrap, PRUNEPOCKET_BADLY_PRESENTED);
+    next_slot.report.presented = 1;
+    table = report(opened(), next_slot, behind_wrap, PRUNEPOCKET_ACCEPTED);
+    check_equal("presented", choose(table, behind_wrap).presented, 0x10000);
+
+    CASE("received FFFFFFFF FFFFFFFF, presented FFFFFFFF, where P is 0");
+    all_ones.report.p = 0;
+    table = report(opened(), all_ones, behind_wrap, PRUNEPOCKET_ACCEPTED);
+    check_equal("presented", choose(table, behind_wrap).presented, 0);
+}
+
+static void test_wired_beside_others(void)
+{
+    record_t next_slot = wired(20);
+    table_t table;
+
+    CASE("a wired unit beside a slower one");
+    table = with_two(wired(10), record_20());
+    check_target(choose(table, now), target_20);
+    check_target(choose(with_two(record_20(), wired(10)), now), target_20);
+    table = farewell(table, 20, unit(20), PRUNEPOCKET_ACCEPTED);
+    check_target(choose(table, now), wired_target(10, SECONDS(999), 1));
+
+    CASE("a wired unit beside one that presents in the next slot");
+    next_slot.report.presented += 1;
+    table = with_two(wired(10), next_slot);
+    check_chosen(table, now, 20, 2);
+    check_equal("presented", choose(table, now).presented, SECONDS(999) + 0x10000);
+
+    CASE("a wired unit beside one that does not report presentation");
+    check_target(choose(with_two(arrival(5), wired(10)), now), wired_target(10, SECONDS(999), 1));
+
+    CASE("two wired units, received at the same time: the lowest number");
+    check_target(choose(with_two(wired(10), wired(20)), now), wired_target(10, SECONDS(999), 2));
+    check_target(choose(with_two(wired(20), wired(10)), now), wired_target(10, SECONDS(999), 2));
+
+    CASE("two wired units, one received a unit of 2^-32 s later");
+    table = with_two(wired(10), wired_at(20, SECONDS(999) + 1));
+    check_target(choose(table, now), wired_target(20, SECONDS(999) + 1, 2));
+    table = with_two(wired_at(10, SECONDS(999) + 0xFFFF), wired_at(20, SECONDS(999) + 0xFFFE));
+    check_target(choose(table, now), wired_target(10, SECONDS(999) + 0xFFFF, 2));
+}
+
+/*
+ * The next slot starts one unit after 999 s and 65535 units, where a step of 1 leads as well. Were the
+ * delay of the wired unit not 1, there would be no tie, and one of the two choices would differ.
+ */
+static void test_wired_tie(void)
+{
+    static const uint64_t received = SECONDS(999) + 0xFFFF;
+    record_t next_slot[] = {wired_at(10, received), wired_at(20, received)};
+
+    for (size_t i = 0; i < LENGTH(next_slot); i++)
+        next_slot[i].report.presented += 1;
+
+    CASE("a wired unit and one in the next slot present at one full time");
+    check_target(choose(with_one(wired_at(10, received)), now), wired_target(10, received, 1));
+    check_target(choose(with_one(next_slot[0]), now), wired_target(10, received, 1));
+    check_equal("presented", choose(with_one(next_slot[0]), now).presented,
+                SECONDS(999) + 0x10000);
+
+    CASE("a tie with a wired unit: the lowest number");
+    check_target(choose(with_two(wired_at(10, received), next_slot[1]), now),
+                 wired_target(10, received, 2));
+    check_target(choose(with_two(next_slot[0], wired_at(20, received)), now),
+                 wired_target(10, received, 2));
+}
+
+static void test_wired_settings(void)
+{
+    static const uint8_t expected[PRUNEPOCKET_SETTINGS_BYTES] = {
+        0x80, 0xD3, 0x00, 0x08, 0x00, 0x00, 0x00, 0x01, 0x00, 0x00, 0x00, 0x07,
+        0x00, 0x00, 0x00, 0x2A, 0x00, 0x00, 0x03, 0xE7, 0x00, 0x00, 0x00, 0x00,
+        0x00, 0x87, 0xF4, 0xB0, 0x00, 0x00, 0x03, 0xE7, 0x00, 0x00, 0x00, 0x01,
+    };
+    uint8_t *packet = allocate(sizeof expected);
+    uint64_t written = 0;
+    uint64_t presented = 0;
+    target_t target;
+
+    CASE("the settings from a wired unit");
+    target = choose(with_one(wired(10)), now);
+    check_answer("write_settings",
+                 prunepocket_write_settings(1, target.group, target.media, target.received,
+                                            target.rtp, target.presented, packet, sizeof expected,
+                                            &written),
+                 0, 0);
+    check_equal("written", written, sizeof expected);
+    for (size_t i = 0; i < sizeof expected; i++)
+        check_equal("byte of the settings", packet[i], expected[i]);
+    check_answer("item_field",
+                 prunepocket_item_field(packet, sizeof expected, 1, 0,
+                                        PRUNEPOCKET_FIELD_PRESENTED, &presented),
+                 0, 0);
+    check_equal("presented", presented, SECONDS(999) + 1);
+    free(packet);
+}
+
+/* ---- Lateness -------------------------------------------------------------------------------- */
+
 /* The greatest and the least lateness that a counted member can have, at the greatest rate. */
 static void test_lateness_limits(void)
 {
     table_t table;
-    record_t least = {5, unit(30), {SECONDS(970), GROUP, MEDIA, 9000000, 0x03CA0001, 33, 1}};
+    record_t least = {5, unit(30), {SECONDS(970), GROUP, MEDIA, 9000000, 0x03CA0000, 33, 1}};
     record_t greatest = {9, unit(30), {SECONDS(1000), GROUP, MEDIA, 0, 0x04060000, 33, 1}};
     reading_t late = {SECONDS(1000), 11520000};
     target_t target;
@@ -1014,8 +1198,7 @@ static void test_lateness_limits(void)
     CASE("the least lateness");
     table = open_table(GROUP, MEDIA, 192000);
     target = choose(report(table, least, now, PRUNEPOCKET_ACCEPTED), now);
-    check_lateness(target, 192000, now,
-                   INT64_C(192000) * (INT64_C(65536) - (int64_t)SECONDS(30)));
+    check_lateness(target, 192000, now, INT64_C(192000) * (1 - (int64_t)SECONDS(30)));
 
     CASE("the greatest lateness");
     target = choose(report(table, greatest, late, PRUNEPOCKET_ACCEPTED), late);
@@ -1175,6 +1358,13 @@ static void test_two_tables(void)
 /* The numbers that random tables were answered with, 0 to 20. */
 static unsigned long met[21];
 
+/*
+ * Random reports with a step of 0, and those of them that 13 to 16 let pass: with any other received
+ * time, and with all ones.
+ */
+static unsigned long met_step_0;
+static unsigned long judged_step_0[2];
+
 static uint64_t next_random(void)
 {
     static uint64_t state = UINT64_C(0x9E3779B97F4A7C15);
@@ -1219,8 +1409,11 @@ static record_t random_record(const table_t *table, int few)
     }
     if (next_random() % 4 == 0)
         record.source = (uint32_t)next_random();
-    if (next_random() % 2 == 0)
-        record.report.presented = (uint32_t)(record.report.received >> 16) + SHORT_SECONDS(1);
+    if (next_random() % 16 == 0)
+        record.report.received = UINT64_MAX;
+    if (next_random() % 4 != 0)
+        record.report.presented = (uint32_t)(record.report.received >> 16) +
+                                  (next_random() % 2 == 0 ? SHORT_SECONDS(1) : 0);
     return record;
 }
 
@@ -1254,12 +1447,27 @@ static unsigned ones(uint64_t word)
     return count;
 }
 
+/* At a step of 0, 17 is given exactly where received is all ones, but for 13 to 16 before it. */
+static void check_step_0(const struct prunepocket_report_fields *fields, uint64_t number)
+{
+    int all_ones = fields->received == UINT64_MAX;
+
+    if (fields->p == 0 || fields->presented != (uint32_t)(fields->received >> 16))
+        return;
+    met_step_0++;
+    if (number == PRUNEPOCKET_ACCEPTED || number >= PRUNEPOCKET_BADLY_PRESENTED) {
+        judged_step_0[all_ones]++;
+        check_equal("report: 17 at a step of 0", number == PRUNEPOCKET_BADLY_PRESENTED, all_ones);
+    }
+}
+
 static void random_report(table_t table, record_t record, reading_t reading)
 {
     answered_t answered = prunepocket_report(table, record, reading);
     uint64_t added = answered.table.held & ~table.held;
 
     check_number("report: number", answered.number, 13, 18);
+    check_step_0(&record.report, answered.number);
     if (answered.number != 0) {
         check_true("report: the table as before", same_table(&answered.table, &table));
         return;
@@ -1342,6 +1550,11 @@ static void test_random_tables(void)
     CASE("each number was met on random tables");
     for (size_t i = 0; i < sizeof numbers; i++)
         check_true("met", met[numbers[i]] > 0);
+
+    CASE("a step of 0 was met on random tables, in one report of ten or more");
+    check_true("met", met_step_0 >= RANDOM_TABLES / 10);
+    check_true("accepted, or 18", judged_step_0[0] >= RANDOM_TABLES / 100);
+    check_true("17 where received is all ones", judged_step_0[1] > 0);
 }
 
 int main(void)
@@ -1370,6 +1583,11 @@ int main(void)
     test_openings();
     test_reading_limits();
     test_presented_limits();
+    test_wired_unit();
+    test_wired_at_all_ones();
+    test_wired_beside_others();
+    test_wired_tie();
+    test_wired_settings();
     test_lateness_limits();
     test_small_differences();
     test_datagrams();

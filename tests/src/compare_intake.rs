@@ -13,6 +13,7 @@ use crate::generator::Rng;
 use crate::intake::{Answer, Fault, Intake};
 use crate::items::{Item, Refusal};
 use crate::members::{Call, Reading};
+use crate::register::step;
 use prunepocket_sys::{DatagramAnswered, Place, Table};
 use std::slice::from_ref;
 
@@ -36,6 +37,10 @@ pub struct Tally {
     pub beside_four: u64,
     /// Calls by kind and by their answer, a refusal's number or 0.
     pub calls: [[u64; 20]; KINDS.len()],
+    /// Reports with P 1 and a step of 0, those accepted and those refused with 17.
+    pub step_zero: u64,
+    pub step_zero_accepted: u64,
+    pub step_zero_refused: u64,
     /// Settings that were passed by.
     pub settings: u64,
     /// Datagrams with an accepted call, and with calls of several answers.
@@ -81,10 +86,22 @@ impl Tally {
             };
             if let Some(&number) = rest.next() {
                 self.calls[kind][number as usize] += 1;
+                self.count_step_zero(&item.item, number);
             }
         }
         self.changing += u64::from(numbers.contains(&0));
         self.mixed += u64::from(numbers.windows(2).any(|pair| pair[0] != pair[1]));
+    }
+
+    fn count_step_zero(&mut self, item: &Item, number: u64) {
+        match item {
+            Item::Report(report) if report.p && step(report.received, report.presented) == 0 => {
+                self.step_zero += 1;
+                self.step_zero_accepted += u64::from(number == 0);
+                self.step_zero_refused += u64::from(number == 17);
+            }
+            _ => {}
+        }
     }
 }
 

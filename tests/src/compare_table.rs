@@ -5,8 +5,8 @@ use crate::archive;
 use crate::compare::{same, Verdict};
 use crate::generator::Rng;
 use crate::histories::{History, Step};
-use crate::members::{Call, Opening, Reading, Record, Target};
-use crate::register::{Fault, Register};
+use crate::members::{Call, Opening, Reading, Record, ReportFields, Target};
+use crate::register::{step, Fault, Register};
 use crate::target::{AtReading, Seen};
 use prunepocket_sys::{Answered, Place, Table, PLACES};
 
@@ -23,7 +23,25 @@ pub struct Tally {
     pub member_lists: u64,
     pub full_lists: u64,
     pub members: u64,
+    pub step_zero: StepZero,
     pub targets: Targets,
+}
+
+/// Low 16 bits of received that are counted with a step of 0.
+pub const LOW_BITS: [u16; 3] = [0, 1, u16::MAX];
+
+/// Reports with P 1 and a step of 0.
+#[derive(Default)]
+pub struct StepZero {
+    pub reports: u64,
+    pub accepted: u64,
+    /// Refused with 17: received at the last full time, and so presented at 0.
+    pub refused: u64,
+    /// Accepted, by the low 16 bits of received.
+    pub low_bits: [u64; LOW_BITS.len()],
+    /// Accepted, and received at the last full time but one, or at 0.
+    pub last_but_one: u64,
+    pub at_zero: u64,
 }
 
 /// Targets that have their defined property.
@@ -33,12 +51,22 @@ pub struct Targets {
     pub by_arrival: u64,
     pub before_reading: u64,
     pub ties: u64,
+    /// The member to follow is wired: its report's step is 0.
+    pub wired: u64,
+    /// A counted member is wired, and a slower one is to be followed.
+    pub beside_wired: u64,
+    /// A wired member's unit of delay can decide.
+    pub unit_apart: u64,
 }
 
 impl Tally {
     /// Reports, farewells and sweeps.
     pub fn calls(&self) -> u64 {
         self.answers[1..4].iter().flatten().sum()
+    }
+
+    pub fn reports(&self) -> u64 {
+        self.answers[1].iter().sum()
     }
 
     /// How often an answer was met with all kinds of calls.
@@ -119,11 +147,11 @@ impl TableComparison {
         if number != 0 && table != sides.table {
             return Err(String::from("the table after a refusal is not as before"));
         }
-        match call {
-            Call::Report(told, _) if sides.register.rows().len() > rows => {
+        if let Call::Report(told, _) = call {
+            self.tally.step_zero.count(&told.report, number);
+            if sides.register.rows().len() > rows {
                 check_new_place(&sides.table, &table, told)?;
             }
-            _ => {}
         }
         sides.table = table;
         Ok(())
@@ -184,6 +212,25 @@ impl TableComparison {
     }
 }
 
+impl StepZero {
+    fn count(&mut self, report: &ReportFields, number: u64) {
+        if report.p != 1 || step(report.received, report.presented) != 0 {
+            return;
+        }
+        self.reports += 1;
+        self.refused += u64::from(number == 17);
+        if number != 0 {
+            return;
+        }
+        self.accepted += 1;
+        for (times, low_bits) in self.low_bits.iter_mut().zip(LOW_BITS) {
+            *times += u64::from(report.received as u16 == low_bits);
+        }
+        self.last_but_one += u64::from(report.received == u64::MAX - 1);
+        self.at_zero += u64::from(report.received == 0);
+    }
+}
+
 impl Targets {
     fn count(&mut self, seen: Option<Seen>) {
         let Some(seen) = seen else {
@@ -195,6 +242,9 @@ impl Targets {
         }
         self.before_reading += u64::from(seen.before);
         self.ties += u64::from(seen.tie);
+        self.wired += u64::from(seen.wired);
+        self.beside_wired += u64::from(seen.beside_wired);
+        self.unit_apart += u64::from(seen.unit_apart);
     }
 }
 

@@ -16,7 +16,10 @@ const AGES: [u64; 6] = [0, 1, LIMIT - 1, LIMIT, LIMIT + 1, u64::MAX];
 /// A presentation step of 30 s.
 const STEP_LIMIT: u32 = 30 << 16;
 
-/// Presentation steps at the limits of check 17 and next to them.
+/// The last two full times before the wrap and the first behind it.
+const AT_WRAP: [u64; 3] = [u64::MAX - 1, u64::MAX, 0];
+
+/// Presentation steps at both ends, at the limit of check 17 and next to it.
 const STEPS: [u32; 6] = [0, 1, STEP_LIMIT - 1, STEP_LIMIT, STEP_LIMIT + 1, u32::MAX];
 
 const RATES: [u32; 6] = [1, 8_000, 44_100, 90_000, 90_000, 192_000];
@@ -88,6 +91,8 @@ struct Temper {
     /// Reports with the times of an earlier one, or nearly those.
     echoes: usize,
     presenting: usize,
+    /// Reports presented in the slot in which they were received: step 0.
+    wired: usize,
     farewells: usize,
     sweeps: usize,
     jumps: usize,
@@ -111,6 +116,7 @@ impl Temper {
             edges: rng.pick(&[1, 3]),
             echoes: rng.pick(&[5, 30]),
             presenting: rng.pick(&[0, 50, 100]),
+            wired: rng.pick(&[5, 25, 50]),
             farewells: rng.pick(&[1, 4]),
             sweeps: 1,
             jumps: 0,
@@ -127,6 +133,7 @@ impl Temper {
             edges: rng.pick(&[2, 5, 20]),
             echoes: rng.pick(&[2, 20, 60]),
             presenting: rng.pick(&[0, 5, 50, 90, 100]),
+            wired: rng.pick(&[5, 25, 50]),
             farewells: rng.pick(&[3, 10, 20]),
             sweeps: rng.pick(&[1, 4, 10]),
             jumps: rng.pick(&[0, 2, 10]),
@@ -344,6 +351,11 @@ impl World {
     }
 
     fn received(&self, rng: &mut Rng) -> u64 {
+        // A unit later, these are the last full time, 0 and 1.
+        let at_wrap = rng.pick(&AT_WRAP);
+        if self.clock.ntp.wrapping_sub(at_wrap) <= LIMIT && rng.chance(20) {
+            return at_wrap;
+        }
         let age = match rng.below(10) {
             _ if rng.chance(self.temper.edges) => match rng.chance(90) {
                 true => rng.pick(&AGES),
@@ -354,9 +366,10 @@ impl World {
         };
         let received = self.clock.ntp.wrapping_sub(age);
         // The low 16 bits are lost in the presented time.
-        match rng.below(5) {
+        match rng.below(6) {
             0 if age > 65_536 => received & !0xFFFF,
-            1 if age > 65_536 => received | 0xFFFF,
+            1 if age > 65_536 => received & !0xFFFF | 1,
+            2 if age > 65_536 => received | 0xFFFF,
             _ => received,
         }
     }
@@ -378,6 +391,9 @@ impl World {
 
     fn presented(&self, rng: &mut Rng, received: u64) -> u32 {
         let m = (received >> 16) as u32;
+        if rng.chance(self.temper.wired) {
+            return m;
+        }
         if rng.chance(self.temper.edges) {
             return match rng.below(4) {
                 0 => 0,
@@ -396,12 +412,13 @@ impl World {
         report.group = self.opening.group;
         report.media = self.opening.media;
         let one = rng.pick(&[1, u32::MAX]);
-        match rng.below(9) {
+        match rng.below(11) {
             0 => report.rtp = report.rtp.wrapping_add(one),
             1 => report.presented = report.presented.wrapping_add(one),
             2 => report.received = report.received.wrapping_add(i64::from(one as i32) as u64),
             3 => report.p ^= 1,
             4 | 5 => self.shift(rng, &mut report),
+            6 | 7 => wire(rng, &mut report),
             _ => {}
         }
         report
@@ -425,6 +442,16 @@ impl World {
             _ => std::mem::swap(&mut report.group, &mut report.media),
         }
     }
+}
+
+/// Received around the start of its presented slot, and presented a unit later:
+/// beside the slower report, the unit of delay decides.
+fn wire(rng: &mut Rng, report: &mut ReportFields) {
+    let m = (report.received >> 16) as u32;
+    let step = u64::from(report.presented.wrapping_sub(m));
+    let start = (report.received & !0xFFFF).wrapping_add(step << 16);
+    report.received = start.wrapping_sub(rng.below(3) as u64);
+    report.presented = (report.received >> 16) as u32;
 }
 
 /// From 0 up to `bound`, without it.

@@ -44,8 +44,16 @@ pub enum Fault {
     RtpLimit(i128),
     /// The greatest delay is so many units more.
     DelayLimit(i128),
-    /// A step of 0 is read as 0.
-    StepZeroKept,
+    /// A step of 0 is a full turn: it is read as 2^32.
+    StepZeroFullTurn,
+    /// A step of 0 has delay 0, though it expands to one unit after received.
+    StepZeroNoDelay,
+    /// A step of 0 expands to received itself, though its delay is 1.
+    StepZeroUnmoved,
+    /// For a step of 0, the unit after the last full time does not wrap to 0.
+    StepZeroNotWrapped,
+    /// For a step of 0, the unit is added to received with low 16 bits cleared.
+    StepZeroLowBitsCleared,
     /// An expanded presentation of 0 is taken.
     ExpandedZeroTaken,
     /// Check 17 also where P is 0.
@@ -107,7 +115,11 @@ impl Fault {
             Fault::RtpLimit(1),
             Fault::DelayLimit(-1),
             Fault::DelayLimit(1),
-            Fault::StepZeroKept,
+            Fault::StepZeroFullTurn,
+            Fault::StepZeroNoDelay,
+            Fault::StepZeroUnmoved,
+            Fault::StepZeroNotWrapped,
+            Fault::StepZeroLowBitsCleared,
             Fault::ExpandedZeroTaken,
             Fault::SeventeenWithoutP,
             Fault::Rows(63),
@@ -353,28 +365,36 @@ impl Register {
         }
     }
 
-    /// (presented − M) modulo 2^32, where M is bits 16 to 47 of received; 0 is
-    /// read as 2^32.
-    fn step(&self, report: &ReportFields) -> i128 {
-        let m = (report.received >> 16) as u32;
-        match report.presented.wrapping_sub(m) {
-            0 if !self.planted(Fault::StepZeroKept) => 1 << 32,
-            step => step.into(),
+    /// The expanded presentation before wrapping. A step of 0 is one unit after
+    /// received. Any other is received with its low 16 bits cleared, plus
+    /// step × 2^16.
+    fn presentation(&self, report: &ReportFields) -> i128 {
+        let received = i128::from(report.received);
+        let cleared = received >> 16 << 16;
+        match (step(report.received, report.presented), self.fault) {
+            (0, Some(Fault::StepZeroFullTurn)) => cleared + (1 << 48),
+            (0, Some(Fault::StepZeroLowBitsCleared)) => cleared + 1,
+            (0, _) => received + 1,
+            (step, _) => cleared + (i128::from(step) << 16),
         }
     }
 
-    /// Received with its low 16 bits cleared, plus step × 2^16; not wrapped.
-    fn presentation(&self, report: &ReportFields) -> i128 {
-        let cleared = report.received >> 16 << 16;
-        i128::from(cleared) + (self.step(report) << 16)
-    }
-
+    /// The presentation modulo 2^64.
     fn expanded(&self, report: &ReportFields) -> u64 {
-        self.presentation(report) as u64
+        let presentation = self.presentation(report);
+        match (step(report.received, report.presented), self.fault) {
+            (0, Some(Fault::StepZeroUnmoved)) => report.received,
+            (0, Some(Fault::StepZeroNotWrapped)) => presentation.min(u64::MAX.into()) as u64,
+            _ => presentation as u64,
+        }
     }
 
+    /// From received to the presentation before wrapping.
     fn delay(&self, report: &ReportFields) -> i128 {
-        self.presentation(report) - i128::from(report.received)
+        match (step(report.received, report.presented), self.fault) {
+            (0, Some(Fault::StepZeroNoDelay)) => 0,
+            _ => self.presentation(report) - i128::from(report.received),
+        }
     }
 
     /// The member to follow at a reading, or 20.
@@ -442,6 +462,12 @@ impl Register {
             counted,
         }
     }
+}
+
+/// (presented − M) modulo 2^32, where M is bits 16 to 47 of received.
+pub(crate) fn step(received: u64, presented: u32) -> u32 {
+    let m = (received >> 16) as u32;
+    presented.wrapping_sub(m)
 }
 
 fn origin_bytes(origin: &Origin) -> [u8; ORIGIN_BYTES] {

@@ -3,6 +3,9 @@
 use std::process::exit;
 use std::time::Instant;
 
+/// Among so many reports, one has to present with a step of 0.
+const STEP_ZERO_SHARE: u64 = 10;
+
 /// A name, and how often it was met.
 pub type Line = (String, u64);
 
@@ -49,6 +52,14 @@ pub fn settle(start: Instant, lines: impl IntoIterator<Item = Line>, least: u64)
     let least = least.max(1);
     if let Some((name, _)) = lines.into_iter().find(|(_, times)| *times < least) {
         println!("FAILED: {name}: met less than {least} times");
+        exit(1);
+    }
+}
+
+/// The run fails where fewer of the reports have a step of 0.
+pub fn ask_step_zero(step_zero: u64, reports: u64) {
+    if step_zero * STEP_ZERO_SHARE < reports {
+        println!("FAILED: reports of step 0: {step_zero} among {reports}");
         exit(1);
     }
 }

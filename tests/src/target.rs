@@ -5,6 +5,9 @@ use crate::members::{Choice, Reading, Record, ReportFields, Target};
 
 const SECOND: i128 = 1 << 32;
 
+/// A slot of 2^-16 s, the unit of a short time.
+const SLOT: i128 = 1 << 16;
+
 /// Members at a reading of the sender's clock.
 pub struct AtReading<'a> {
     pub rate: u32,
@@ -20,6 +23,12 @@ pub struct Seen {
     pub before: bool,
     /// More than one counted member has its lateness.
     pub tie: bool,
+    /// The member to follow is wired.
+    pub wired: bool,
+    /// Another counted member is wired, and the one to follow has more delay.
+    pub beside_wired: bool,
+    /// The latest wired member and the latest other are at most a unit apart.
+    pub unit_apart: bool,
 }
 
 /// A counted member: when it presents the sample that it reported, in units of
@@ -28,6 +37,8 @@ struct Counted {
     source: u32,
     presents: i128,
     rtp_age: i128,
+    /// Counted by presentation, and received in the presented slot: step 0.
+    wired: bool,
 }
 
 impl Counted {
@@ -58,10 +69,18 @@ impl AtReading<'_> {
             Ok(target) => {
                 let lateness = self.lateness(target);
                 check_least(&counted, lateness, samples)?;
+                let tie = count_equals(&counted, lateness, target)? > 1;
+                let chosen = |member: &Counted| member.source == target.source;
+                let slower = difference(target.presented, target.received) > 1;
+                let (wired, other) = (latest(&counted, true), latest(&counted, false));
+                let apart = wired.zip(other).map(|(wired, other)| (wired - other).abs());
                 Ok(Some(Seen {
                     by_presentation,
                     before: lateness < 0,
-                    tie: count_equals(&counted, lateness, target)? > 1,
+                    tie,
+                    wired: counted.iter().any(|member| member.wired && chosen(member)),
+                    beside_wired: slower && wired.is_some(),
+                    unit_apart: apart.is_some_and(|apart| apart <= self.rate.into()),
                 }))
             }
         }
@@ -87,6 +106,7 @@ impl AtReading<'_> {
                     source: member.source,
                     presents: i128::from(self.rate) * (delay - self.ntp_age(report.received)),
                     rtp_age: self.rtp_age(report.rtp),
+                    wired: by_presentation && slots(report) == 0,
                 }
             })
             .collect()
@@ -135,16 +155,29 @@ fn count_equals(counted: &[Counted], lateness: i128, target: &Target) -> Result<
     }
 }
 
+/// The greatest lateness of wired members, or of the others.
+fn latest(counted: &[Counted], wired: bool) -> Option<i128> {
+    let counted = counted.iter().filter(|member| member.wired == wired);
+    counted.map(|member| member.moment(0)).max()
+}
+
 /// The full time from one to another, modulo 2^64.
 fn difference(to: u64, from: u64) -> i128 {
     (i128::from(to) - i128::from(from)).rem_euclid(1 << 64)
 }
 
-/// From the received time to the first later unit of 2^-16 s that has the short
-/// presented time; the received time's own unit is not later.
+/// From the received time's slot of 2^-16 s to the next, or this one, that has the
+/// short presented time.
+fn slots(report: &ReportFields) -> i128 {
+    let own = i128::from(report.received) / SLOT;
+    (i128::from(report.presented) - own).rem_euclid(1 << 32)
+}
+
+/// From the received time to the start of the presented slot; one unit of 2^-32 s
+/// where it was received in that slot.
 fn delay(report: &ReportFields) -> i128 {
-    let received = i128::from(report.received);
-    let next = received / 65_536 + 1;
-    let wait = (i128::from(report.presented) - next).rem_euclid(1 << 32);
-    (next + wait) * 65_536 - received
+    match slots(report) {
+        0 => 1,
+        slots => slots * SLOT - i128::from(report.received) % SLOT,
+    }
 }

@@ -7,7 +7,9 @@ use prunepocket_tests::compare::hex;
 use prunepocket_tests::compare_intake::{smallest, IntakeComparison, Tally, KINDS};
 use prunepocket_tests::first_packets::FLAGS;
 use prunepocket_tests::generator::{self, Rng};
-use prunepocket_tests::tallies::{answer_name, lines, print_answers, print_lines, settle, Line};
+use prunepocket_tests::tallies::{
+    answer_name, ask_step_zero, lines, print_answers, print_lines, settle, Line,
+};
 use std::process::exit;
 use std::time::Instant;
 
@@ -42,6 +44,8 @@ fn main() {
     let met = of_datagrams(tally).into_iter().chain(of_kinds(tally));
     let met = met.chain(tally.firsts.type_lines());
     settle(start, met.chain(others(tally)), datagrams / SHARE);
+    let (step_zero, reports) = (tally.step_zero, tally.calls[0].iter().sum());
+    ask_step_zero(step_zero, reports);
 }
 
 fn report_mismatch(seed: u64, run: u64, course: &Course, difference: &str) {
@@ -88,6 +92,9 @@ fn of_datagrams(tally: &Tally) -> Vec<Line> {
 
 fn others(tally: &Tally) -> Vec<Line> {
     lines([
+        ("reports of step 0", tally.step_zero),
+        ("step 0 accepted", tally.step_zero_accepted),
+        ("step 0 refused 17", tally.step_zero_refused),
         ("alike with both values", tally.alike),
         ("refused 4 with one value", tally.beside_four),
         ("settings passed by", tally.settings),

@@ -1,10 +1,12 @@
 //! Compares the archive's member table with the plain register over a million
 //! calls, its targets with their definition, and prints what was met.
 
-use prunepocket_tests::compare_table::{smallest, TableComparison, Tally, KINDS};
+use prunepocket_tests::compare_table::{smallest, StepZero, TableComparison, Tally, KINDS};
 use prunepocket_tests::generator::{self, Rng};
 use prunepocket_tests::histories::{self, History};
-use prunepocket_tests::tallies::{answer_name, lines, print_answers, print_lines, settle, Line};
+use prunepocket_tests::tallies::{
+    answer_name, ask_step_zero, lines, print_answers, print_lines, settle, Line,
+};
 use std::process::exit;
 use std::time::Instant;
 
@@ -31,6 +33,9 @@ fn main() {
     let answers = NUMBERS.map(|number| (answer_name(number), comparison.tally.met(number)));
     let met = answers.into_iter().chain(others(&comparison.tally));
     settle(start, met, runs / SHARE);
+    let step_zero = comparison.tally.step_zero.reports;
+    let reports = comparison.tally.reports();
+    ask_step_zero(step_zero, reports);
 }
 
 fn report_mismatch(seed: u64, run: u64, history: &History, difference: &str) {
@@ -55,7 +60,7 @@ fn print_table(seed: u64, tally: &Tally) {
 
 fn others(tally: &Tally) -> Vec<Line> {
     let targets = &tally.targets;
-    lines([
+    let mut others = lines([
         ("lists of members", tally.member_lists),
         ("lists of 64 members", tally.full_lists),
         ("members", tally.members),
@@ -63,5 +68,25 @@ fn others(tally: &Tally) -> Vec<Line> {
         ("targets by arrival", targets.by_arrival),
         ("targets before the reading", targets.before_reading),
         ("targets of several members", targets.ties),
+        ("targets of step 0", targets.wired),
+        ("targets slower than step 0", targets.beside_wired),
+        ("targets a unit beside step 0", targets.unit_apart),
+    ]);
+    others.extend(of_step_zero(&tally.step_zero));
+    others
+}
+
+/// Low bits and times at the wrap are those of accepted reports.
+fn of_step_zero(tally: &StepZero) -> Vec<Line> {
+    let [low_0, low_1, low_65535] = tally.low_bits;
+    lines([
+        ("reports of step 0", tally.reports),
+        ("step 0 accepted", tally.accepted),
+        ("step 0 refused 17", tally.refused),
+        ("step 0, low bits 0", low_0),
+        ("step 0, low bits 1", low_1),
+        ("step 0, low bits 65535", low_65535),
+        ("step 0, received 2^64 - 2", tally.last_but_one),
+        ("step 0, received 0", tally.at_zero),
     ])
 }

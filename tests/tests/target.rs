@@ -1,7 +1,7 @@
 //! Targets that are not as defined are found to be so.
 
 use prunepocket_tests::members::{Choice, Reading, Record, ReportFields, Target};
-use prunepocket_tests::target::AtReading;
+use prunepocket_tests::target::{AtReading, Seen};
 
 const SECOND: u64 = 1 << 32;
 
@@ -77,4 +77,48 @@ fn the_definition_finds_wrong_targets() {
     };
     assert!(stale.check(&Ok(RIGHT), &[0]).is_err());
     assert_eq!(stale.check(&Err(20), &[0]), Ok(None));
+}
+
+/// At a rate of 8000.
+fn check(members: &[Record], target: Target) -> Result<Option<Seen>, String> {
+    let at_reading = AtReading {
+        rate: 8000,
+        reading: READING,
+        members,
+    };
+    at_reading.check(&Ok(target), &[0, -1, 1])
+}
+
+/// Member 3 presents in the slot of 2^-16 s in which it received, at its first,
+/// second or last unit; member 4 is slower.
+#[test]
+fn the_definition_finds_wrong_targets_of_step_0() {
+    for low_bits in [0, 1, 65_535] {
+        let mut wired = member(3, 1, 0);
+        wired.report.received += low_bits;
+        let received = wired.report.received;
+        let right = Target {
+            source: 3,
+            received,
+            rtp: wired.report.rtp,
+            presented: received + 1,
+            counted: 1,
+            ..RIGHT
+        };
+        let seen = |wired: bool| Seen {
+            by_presentation: true,
+            before: false,
+            tie: false,
+            wired,
+            beside_wired: !wired,
+            unit_apart: false,
+        };
+        assert_eq!(check(&[wired], right), Ok(Some(seen(true))));
+        for presented in [received, received + 2, received - low_bits + (1 << 48)] {
+            assert!(check(&[wired], Target { presented, ..right }).is_err());
+        }
+        let both = [wired, member(4, 2, 3)];
+        assert_eq!(check(&both, RIGHT), Ok(Some(seen(false))));
+        assert!(check(&both, right).is_err());
+    }
 }

@@ -37,7 +37,16 @@ papers-hold = (
                 (refl, refl, refl, refl, refl, refl),
                 (
                   (refl, refl, refl, refl),
-                  ((refl, refl, refl), tt),
+                  (
+                    (refl, refl, refl),
+                    (
+                      (refl, refl, refl),
+                      (
+                        (refl, refl, refl),
+                        ((refl, refl, refl), tt),
+                      ),
+                    ),
+                  ),
                 ),
               ),
             ),

@@ -1,4 +1,5 @@
--- The bench cases of document 01 that are marked P, as one list of statements about the definitions.
+-- The bench cases of document 01 that are marked P, and those of document 02, E3, as one list of statements about the
+-- definitions.
 use Prim.Native.Nat.{ℕ, _+_, _-_, _*_, _^_}
 use mathlib.Core.Bool.{false}
 use mathlib.Core.List.{List, [], _∷_}
@@ -181,7 +182,7 @@ receivedAt received = member 10 received 8910000 0x03E78000
 
 -- Received 970 s passes 15, one unit earlier is refused; received N passes, N plus one unit is refused. Passing means
 -- passing that one check: the other fields are P1's, and P1 is presented half a second before N, so that at received N
--- its delay is half a second less than a full turn. The table then answers 17, as it does only where 15 does not apply.
+-- its delay is 2^16 s less half a second. The table then answers 17, as it does only where 15 does not apply.
 abbrev pub P8 : Type 0
 P8 =
     (isFar (reading .ntp) (seconds 970) ≡ false)
@@ -214,9 +215,36 @@ P10 =
     × (numberAt reading (presentedAt 0x04050000) ≡ 0)
     × (numberAt reading (presentedAt 0x04050001) ≡ 17)
 
+-- document 02, E3: received 999 s, presented 03E70000: accepted with delay 1
+abbrev pub wired : Record
+wired = presentedAt 0x03E70000
+
+abbrev pub E3Wired : Type 0
+E3Wired =
+    (delay (seconds 999) 0x03E70000 ≡ 1)
+    × (expanded (seconds 999) 0x03E70000 ≡ seconds 999 + 1)
+    × (numberAt reading wired ≡ 0)
+
+-- The choice reads it: lateness 90,000, one unit of 2^-32 s. P2 held beside it: 20 chosen, 2 counted. Alone: presented
+-- received plus one unit.
+abbrev pub E3Chosen : Type 0
+E3Chosen =
+    (latenessOf opening reading wired ≡ pos 90000)
+    × (choiceOf (holding wired twenty) reading ≡ target 20 (seconds 998) 8820000 (seconds 998 + 0xC0000000) 2)
+    × (choiceOf (tableFrom (opened opening .table) (Call.report wired reading ∷ [])) reading
+    ≡ target 10 (seconds 999) 8910000 (seconds 999 + 1) 1)
+
+-- document 02, E3: received FFFFFFFF FFFFFFFF, presented FFFFFFFF, with P6's reading and RTP time: expanded 0, so 17,
+-- with a delay of 1
+abbrev pub E3AllOnes : Type 0
+E3AllOnes =
+    (delay 0xFFFFFFFFFFFFFFFF 0xFFFFFFFF ≡ 1)
+    × (expanded 0xFFFFFFFFFFFFFFFF 0xFFFFFFFF ≡ 0)
+    × (numberAt wrapped (member 10 0xFFFFFFFFFFFFFFFF 9000000 0xFFFFFFFF) ≡ 17)
+
 -- all of them
 unfoldable pub papers : List (Type 0)
-papers = P1 ∷ P2 ∷ P3 ∷ P4 ∷ P5 ∷ P6 ∷ P7 ∷ P8 ∷ P9 ∷ P10 ∷ []
+papers = P1 ∷ P2 ∷ P3 ∷ P4 ∷ P5 ∷ P6 ∷ P7 ∷ P8 ∷ P9 ∷ P10 ∷ E3Wired ∷ E3Chosen ∷ E3AllOnes ∷ []
 
 -- every statement of a list is true
 unfoldable pub AllHold : List (Type 0) → Type 0

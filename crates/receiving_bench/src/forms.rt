@@ -156,7 +156,7 @@ pub(crate) fn print_came(line: Line, s: &[u8]) {
           \x20 target: $a0\n\
           \x20 lateness of the target: $h0 x 2^32\n\
           \x20 NTP age of the target: $t0\n\
-          \x20 delay of the target: $t0\n\
+          \x20 delay of the target: $d0\n\
           \x20 members: $n0\n\
           \x20 place $n0: source $n1 of $o0\n\
           \x20 place $n0: free\n\

@@ -45,10 +45,12 @@ const POINT: usize = 16;
 
 const PORT: usize = 17;
 
-const UNKNOWN: usize = 18;
+const UNITS: usize = 18;
+
+const UNKNOWN: usize = 19;
 
 // The phrase of the answer 0, which those of the other answers follow.
-const ANSWERS: usize = 19;
+const ANSWERS: usize = 20;
 
 const LAST_ANSWER: u64 = 22;
 
@@ -64,7 +66,7 @@ pub(crate) fn say(phrase: usize) {
           presented \n\
           unchanged\n\
           CHANGED\n\
-          the paper's bytes\n\
+          the text's bytes\n\
           other bytes\n\
           line \n\
           : not understood\n\
@@ -74,6 +76,7 @@ pub(crate) fn say(phrase: usize) {
           \x20s\n\
           .\n\
           \x20port \n\
+          \x20x 2^-32 s\n\
           no answer of a call\n\
           accepted\n\
           length 0, over 2048 or not a multiple of 4\n\
@@ -120,6 +123,16 @@ fn print_time(t: u64) {
     print_number(thousandths / 10 % 10);
     print_number(thousandths % 10);
     say(SECONDS);
+}
+
+// A delay: in units where it is less than a thousandth of a second.
+fn print_delay(t: u64) {
+    if t < 4294968 {
+        print_number(t);
+        say(UNITS);
+    } else {
+        print_time(t);
+    }
 }
 
 // One of two phrases, the first for 0.
@@ -211,6 +224,7 @@ fn print_value(letter: u8, n: u64, origin: Origin, s: &[u8]) {
         b'n' => print_number(n),
         b'h' => print_number(n / 4294967296),
         b't' => print_time(n),
+        b'd' => print_delay(n),
         b'a' => print_answer(n),
         b'l' => print_answers(n),
         b'p' => print_presented(n),

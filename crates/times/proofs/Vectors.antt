@@ -1,4 +1,4 @@
--- The definitions at the papers' cases P1, P2, P6, P7, P8, P9 and P10.
+-- The definitions at the papers' cases P1, P2, P6, P7, P8, P9 and P10, and at those of E3.
 use Prim.Native.Nat.{ℕ, _+_, _-_, _*_, _^_}
 use mathlib.Core.Path.{_≡_, refl}
 use mathlib.Core.Bool.{true, false}
@@ -54,8 +54,16 @@ p10 :
 unfolding step unwrapped delay expanded differenceMod
 p10 = (refl, refl)
 
--- a step of 0 is a full turn: a delay of some 18 hours
-full-turn :
-    (delay (seconds 999) 0x03E70000 ≡ 2 ^ 48) × (isBadlyPresented (seconds 999) 0x03E70000 ≡ true)
+-- E3: received in the first and the last unit of the presented slot, and at the last two full times
+one-slot :
+    (delay (seconds 999) 0x03E70000 ≡ 1)
+    × (expanded (seconds 999) 0x03E70000 ≡ seconds 999 + 1)
+    × (isBadlyPresented (seconds 999) 0x03E70000 ≡ false)
+    × (delay (seconds 999 + 65535) 0x03E70000 ≡ 1)
+    × (expanded (seconds 999 + 65535) 0x03E70000 ≡ seconds 999 + 65536)
+    × (expanded 0xFFFFFFFFFFFFFFFE 0xFFFFFFFF ≡ 0xFFFFFFFFFFFFFFFF)
+    × (delay 0xFFFFFFFFFFFFFFFF 0xFFFFFFFF ≡ 1)
+    × (expanded 0xFFFFFFFFFFFFFFFF 0xFFFFFFFF ≡ 0)
+    × (isBadlyPresented 0xFFFFFFFFFFFFFFFF 0xFFFFFFFF ≡ true)
 unfolding step unwrapped delay expanded differenceMod
-full-turn = (refl, refl)
+one-slot = (refl, refl, refl, refl, refl, refl, refl, refl, refl)

@@ -1,1 +1,2 @@
 pub mod Times
+pub mod Wired

@@ -20,22 +20,20 @@ rtpAge r rtp = differenceMod 32 r rtp
 
 -- ---- presentation
 
--- 0 stands for 2^32
-abbrev pub fullTurn : ℕ → ℕ
-fullTurn s = cond (eqb s 0) (2 ^ 32) s
-
--- document 01's M: bits 16 to 47 of received
+-- document 01's M: bits 16 to 47 of received, the number of its slot of 2^-16 s
 abbrev pub middle : ℕ → ℕ
 middle received = received / 2 ^ 16 % 2 ^ 32
 
--- document 01's step, in units of 2^-16 s: (presented − M) modulo 2^32, where 0 is read as 2^32, since presented is
--- greater than received
+-- document 01's step, in units of 2^-16 s: (presented − M) modulo 2^32
 unfoldable pub step : ℕ → ℕ → ℕ
-step received presented = fullTurn (differenceMod 32 presented (middle received))
+step received presented = differenceMod 32 presented (middle received)
 
--- the presentation before wrapping: received with its low 16 bits cleared, plus step × 2^16
+-- the presentation before wrapping: received with its low 16 bits cleared, plus step × 2^16; at a step of 0, received
+-- plus one unit of 2^-32 s (document 02, E3), since presented is greater than received
 unfoldable pub unwrapped : ℕ → ℕ → ℕ
-unwrapped received presented = received / 2 ^ 16 * 2 ^ 16 + step received presented * 2 ^ 16
+unwrapped received presented =
+    cond (eqb (step received presented) 0) (received + 1)
+    (received / 2 ^ 16 * 2 ^ 16 + step received presented * 2 ^ 16)
 
 -- the expanded presentation, modulo 2^64
 unfoldable pub expanded : ℕ → ℕ → ℕ

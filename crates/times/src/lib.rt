@@ -1,7 +1,7 @@
 // Times that wrap: presentation, ages, and the checks on them. Every function takes any numbers.
 ghost use mathlib.Core.Path.{_≡_};
-ghost use Prim.Native.Nat.{_≤_, _^_};
-ghost use Rattle.times.specs.Times.{step, expanded, delay, ntpAge, rtpAge};
+ghost use Prim.Native.Nat.{_+_, _^_, _≤_};
+ghost use Rattle.times.specs.Times.{unwrapped, expanded, delay, ntpAge, rtpAge};
 ghost use Rattle.times.specs.Times.{isFar, isAged, isBadlyPresented, isFresh};
 
 // In units of 2^-32 s: the longest NTP age (15) and the longest presentation delay (17).
@@ -27,34 +27,47 @@ pub fn rtp_age(r: u32, rtp: u32) -> u32
     4294967295 - (rtp - r) + 1
 }
 
-// The step in units of 2^-16 s, a full turn for 0. M lies before presented as an RTP time lies before a reading.
-fn step_between(received: u64, presented: u32) -> u64
-    ensures { λ r. ⌜ (r ≡ step received presented) × (r ≤ 2 ^ 32) ⌝ }
+// A presentation before wrapping, base + on: it can have 65 bits.
+struct Unwrapped {
+    base: u64,
+    on: u64,
+}
+
+// One unit after received where presented is received's own slot of 2^-16 s, else the start of the presented slot. M
+// lies before presented as an RTP time lies before a reading.
+fn unwrapped_presentation(received: u64, presented: u32) -> Unwrapped
+    ensures { λ r. ⌜ (r .base + r .on ≡ unwrapped received presented) × (r .base ≤ received) × (r .on ≤ 2 ^ 48) ⌝ }
 {
-    let t = rtp_age(presented, (received / 65536 % 4294967296) as u32);
-    if t == 0 {
-        return 4294967296;
+    let start = received / 65536 * 65536;
+    let step = rtp_age(presented, (received / 65536 % 4294967296) as u32);
+    if step == 0 {
+        return Unwrapped {
+            base: received,
+            on: 1,
+        };
     }
-    t as u64
+    let on = (step as u64) * 65536;
+    Unwrapped { base: start, on }
 }
 
 // How long after its arrival a sample is presented, in units of 2^-32 s.
 pub fn presentation_delay(received: u64, presented: u32) -> u64
     ensures { λ r. ⌜ r ≡ delay received presented ⌝ }
 {
-    step_between(received, presented) * 65536 - received % 65536
+    let Unwrapped { base, on } = unwrapped_presentation(received, presented);
+    on - (received - base)
 }
 
 // The short presented time as a full time.
 pub fn presentation(received: u64, presented: u32) -> u64
     ensures { λ r. ⌜ r ≡ expanded received presented ⌝ }
 {
-    let base = received / 65536 * 65536;
-    let on = step_between(received, presented) * 65536;
-    if on <= 18446744073709551615 - base {
+    let Unwrapped { base, on } = unwrapped_presentation(received, presented);
+    let left = 18446744073709551615 - base;
+    if on <= left {
         return base + on;
     }
-    on - (18446744073709551615 - base) - 1
+    on - left - 1
 }
 
 // Check 15.
