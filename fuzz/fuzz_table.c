@@ -17,7 +17,7 @@
 
 #define SECOND ((uint64_t)1 << 32)
 
-enum { MOST_CALLS = 600, NUMBERS = 21, NOBODY = -1, MOST_PACKETS = 7, MOST_DATAGRAM = 40 * MOST_PACKETS };
+enum { MOST_CALLS = 600, NUMBERS = 21, MOST_PACKETS = 7, MOST_DATAGRAM = 40 * MOST_PACKETS };
 enum call { OPEN, FILE_REPORT, SAY_FAREWELL, SWEEP, CHOOSE, TAKE_DATAGRAM, CALLS };
 
 static const char *const call_names[CALLS] = {"open", "report", "farewell", "sweep", "choose", "take_datagram"};
@@ -28,11 +28,31 @@ enum low_bits { LOW_0, LOW_1, LOW_65535, LOW_OTHER, ALL_ONES, LOW_BITS };
 static const char *const low_bits_names[LOW_BITS] = {"low bits 0", "low bits 1", "low bits 65535", "other low bits",
                                                      "all ones"};
 
-/* What the fuzzer is told beside the branches: answers by call, at a step of 0, rows, and how a target came about. */
+/* What is told apart of new members that 13 to 17 let pass: where they stand. */
+enum new_member { AT_0, AT_0_BELOW, BELOW, AT_63_LAST, NO_PLACE, NEW_MEMBERS };
+
+/* With the number of reports of which at least one must be such. */
+static const struct {
+    const char *name;
+    uint64_t reports;
+} new_member_kinds[NEW_MEMBERS] = {
+    {"at place 0", 100},
+    {"at place 0 below held places", 10000},
+    {"at any place below held places", 2000},
+    {"at place 63 with all others held", 1000},
+    {"refused with 18", 100},
+};
+
+/*
+ * What the fuzzer is told beside the branches: answers by call, at a step of 0, rows, the place of
+ * a new member with none held above it, with some, or with all others held, and how a target came
+ * about.
+ */
 enum {
     BY_LOW_BITS = CALLS * NUMBERS,
     BY_ROWS = BY_LOW_BITS + LOW_BITS * NUMBERS,
-    BY_COUNTED = BY_ROWS + 65,
+    BY_PLACE = BY_ROWS + 65,
+    BY_COUNTED = BY_PLACE + 3 * 65,
     BY_TIES = BY_COUNTED + 3 * 65,
     COUNTERS = BY_TIES + 3 * 65
 };
@@ -44,6 +64,9 @@ static uint64_t looks, ties[2], targets[2], replaced, swept, most_rows, reduced;
 
 /* Reports, by calls and in datagrams; those with P 1 and a step of 0; the targets among these. */
 static uint64_t reports, at_step_0[LOW_BITS][NUMBERS], wired, wired_ties;
+
+/* Reports of new members, by calls and in datagrams. */
+static uint64_t new_members[NEW_MEMBERS];
 
 /* Below so many reports, as where one input is run, a share says nothing. */
 #define ENOUGH_REPORTS 10000
@@ -90,6 +113,16 @@ static void print_step_0(void)
         at_least(low_bits_names[i], count_step_0(i), reports / 1000);
 }
 
+static void print_new_members(void)
+{
+    fputs("new members:", stderr);
+    for (size_t i = 0; i < NEW_MEMBERS; i++)
+        fprintf(stderr, " %s %" PRIu64 ";", new_member_kinds[i].name, new_members[i]);
+    fputs("\n", stderr);
+    for (size_t i = 0; i < NEW_MEMBERS; i++)
+        at_least(new_member_kinds[i].name, new_members[i], reports / new_member_kinds[i].reports);
+}
+
 static void print_met(void)
 {
     for (size_t call = 0; call < CALLS; call++) {
@@ -103,6 +136,7 @@ static void print_met(void)
                     " among equals\n",
             targets[0], ties[0], targets[1], ties[1]);
     print_step_0();
+    print_new_members();
     fprintf(stderr, "reports replaced: %" PRIu64 "; members swept: %" PRIu64 "; at most %" PRIu64
                     " members; looks at all members: %" PRIu64 "\n",
             replaced, swept, most_rows, looks);
@@ -122,8 +156,6 @@ int LLVMFuzzerInitialize(int *argc, char ***argv)
 struct sides {
     struct prunepocket_table table;
     struct plain_register rows;
-    /* Who should stand at each place, which the register does not know: a source number or NOBODY. */
-    int64_t places[PRUNEPOCKET_PLACES];
     unsigned calls;
 };
 
@@ -181,41 +213,36 @@ static void same_table(const struct prunepocket_table *archive, const struct pru
             same_record(&archive->members[i], &before->members[i]);
 }
 
+/* At a place stands the row there; where there is none, as behind the last place, all is zeros. */
+static void look_at(const struct sides *sides, size_t place)
+{
+    const struct row *row = register_row_at(&sides->rows, place);
+    struct prunepocket_record record = {0};
+    struct prunepocket_place at = prunepocket_member_at(sides->table, place);
+
+    if (row)
+        record = to_record(row);
+    same("held", at.held, row != NULL);
+    same_record(&at.member, &record);
+}
+
 static void look(const struct sides *sides)
 {
-    static const struct prunepocket_record zeros;
-    size_t held = 0;
+    static const size_t outside[] = {PRUNEPOCKET_PLACES, 65, 128, SIZE_MAX};
 
     looks++;
-    same("members", prunepocket_count_members(sides->table), sides->rows.count);
-    for (size_t place = 0; place < PRUNEPOCKET_PLACES; place++) {
-        struct prunepocket_place at = prunepocket_member_at(sides->table, place);
-        bool expected = sides->places[place] != NOBODY;
-
-        same("held", at.held, expected);
-        if (expected) {
-            const struct row *row = register_row(&sides->rows, (uint32_t)sides->places[place]);
-            struct prunepocket_record record = to_record(row);
-
-            same_record(&at.member, &record);
-            held++;
-        } else {
-            same_record(&at.member, &zeros);
-        }
-    }
-    same("places held", held, sides->rows.count);
-    static const size_t outside[] = {PRUNEPOCKET_PLACES, 65, 128, SIZE_MAX};
-    for (size_t i = 0; i < sizeof outside / sizeof outside[0]; i++) {
-        struct prunepocket_place at = prunepocket_member_at(sides->table, outside[i]);
-
-        same("held behind the last place", at.held, 0);
-        same_record(&at.member, &zeros);
-    }
+    same("members", prunepocket_count_members(sides->table), register_count(&sides->rows));
+    for (size_t place = 0; place < PRUNEPOCKET_PLACES; place++)
+        look_at(sides, place);
+    for (size_t i = 0; i < sizeof outside / sizeof outside[0]; i++)
+        look_at(sides, outside[i]);
 }
 
 /* Takes the table that a call handed back, after a look at its number. */
 static void take(struct sides *sides, enum call call, const struct prunepocket_answered *answered, unsigned number)
 {
+    size_t count = register_count(&sides->rows);
+
     met[call][number]++;
     counters[call * NUMBERS + number] = 1;
     same(call_names[call], answered->number, number);
@@ -223,11 +250,11 @@ static void take(struct sides *sides, enum call call, const struct prunepocket_a
         same_table(&answered->table, &sides->table);
     sides->table = answered->table;
     sides->calls++;
-    if (sides->rows.count > most_rows)
-        most_rows = sides->rows.count;
-    counters[BY_ROWS + sides->rows.count] = 1;
+    if (count > most_rows)
+        most_rows = count;
+    counters[BY_ROWS + count] = 1;
     if (number == 0)
-        same("members", prunepocket_count_members(sides->table), sides->rows.count);
+        same("members", prunepocket_count_members(sides->table), count);
 }
 
 static bool open_both(struct sides *sides, uint32_t group, uint32_t media, uint32_t rate)
@@ -241,8 +268,6 @@ static bool open_both(struct sides *sides, uint32_t group, uint32_t media, uint3
     if (number != 0)
         return false;
     sides->table = answered.table;
-    for (size_t place = 0; place < PRUNEPOCKET_PLACES; place++)
-        sides->places[place] = NOBODY;
     look(sides);
     return true;
 }
@@ -274,7 +299,28 @@ static void tally_report(const struct told *report, unsigned number)
     }
 }
 
-/* The register's number for a report. A new row's member should stand at the lowest free place. */
+/* The place of a number that has a row. */
+static size_t place_of(const struct plain_register *rows, uint32_t source)
+{
+    return (size_t)(register_row(rows, source) - rows->rows);
+}
+
+/* A new row stands at a place, or at none. All places below it are held. */
+static void tally_new_member(const struct plain_register *rows, size_t place)
+{
+    size_t count = register_count(rows);
+    bool last = count == PLACES;
+    bool below = count > place + 1;
+
+    new_members[AT_0] += place == 0;
+    new_members[AT_0_BELOW] += place == 0 && below;
+    new_members[BELOW] += below;
+    new_members[AT_63_LAST] += place == 63 && last;
+    new_members[NO_PLACE] += place == PLACES;
+    counters[BY_PLACE + 65 * (last ? 2 : below) + place] = 1;
+}
+
+/* The register's number for a report. */
 static unsigned report_expected(struct sides *sides, const struct row *row, struct clocks now)
 {
     bool known = register_row(&sides->rows, row->source) != NULL;
@@ -283,13 +329,10 @@ static unsigned report_expected(struct sides *sides, const struct row *row, stru
     tally_report(&row->report, number);
     if (number == 0 && known)
         replaced++;
-    if (number == 0 && !known) {
-        size_t free = 0;
-
-        while (sides->places[free] != NOBODY)
-            free++;
-        sides->places[free] = row->source;
-    }
+    if (number == 0 && !known)
+        tally_new_member(&sides->rows, place_of(&sides->rows, row->source));
+    if (number == 18)
+        tally_new_member(&sides->rows, PLACES);
     return number;
 }
 
@@ -297,42 +340,28 @@ static void report_both(struct sides *sides, const struct row *row, struct clock
 {
     struct prunepocket_reading reading = {.ntp = now.n, .rtp = now.r};
     struct prunepocket_answered answered = prunepocket_report(sides->table, to_record(row), reading);
+    unsigned number = report_expected(sides, row, now);
 
-    take(sides, FILE_REPORT, &answered, report_expected(sides, row, now));
-}
-
-/* Those whose row has gone leave their places. */
-static void leave(struct sides *sides)
-{
-    for (size_t place = 0; place < PRUNEPOCKET_PLACES; place++)
-        if (sides->places[place] != NOBODY && !register_row(&sides->rows, (uint32_t)sides->places[place]))
-            sides->places[place] = NOBODY;
-}
-
-static unsigned farewell_expected(struct sides *sides, uint32_t source, const struct from *origin)
-{
-    unsigned number = register_farewell(&sides->rows, source, origin);
-
-    leave(sides);
-    return number;
+    take(sides, FILE_REPORT, &answered, number);
+    if (number == 0)
+        look_at(sides, place_of(&sides->rows, row->source));
 }
 
 static void farewell_both(struct sides *sides, uint32_t source, const struct from *origin)
 {
     struct prunepocket_answered answered = prunepocket_farewell(sides->table, source, to_origin(origin));
 
-    take(sides, SAY_FAREWELL, &answered, farewell_expected(sides, source, origin));
+    take(sides, SAY_FAREWELL, &answered, register_farewell(&sides->rows, source, origin));
 }
 
 static void sweep_both(struct sides *sides, struct clocks now)
 {
     struct prunepocket_reading reading = {.ntp = now.n, .rtp = now.r};
     struct prunepocket_answered answered = prunepocket_sweep(sides->table, reading);
-    size_t before = sides->rows.count;
+    size_t before = register_count(&sides->rows);
 
     register_sweep(&sides->rows, now);
-    swept += before - sides->rows.count;
-    leave(sides);
+    swept += before - register_count(&sides->rows);
     take(sides, SWEEP, &answered, 0);
 }
 
@@ -446,7 +475,7 @@ static size_t numbers_expected(struct sides *sides, const struct arrival *arriva
         if (item->kind == REPORT)
             numbers[count++] = report_expected(sides, &row, arrival->now);
         else if (item->kind == FAREWELL)
-            numbers[count++] = farewell_expected(sides, item->source, &arrival->origin);
+            numbers[count++] = register_farewell(&sides->rows, item->source, &arrival->origin);
     }
     return count;
 }
@@ -793,6 +822,27 @@ static void report_alike(struct script *script, struct sides *sides, uint8_t sai
     }
 }
 
+/* The row that has so many before it, by place; null if there is none. */
+static const struct row *row_behind(const struct plain_register *rows, size_t before)
+{
+    for (size_t place = 0; place < PLACES; place++)
+        if (rows->held[place] && before-- == 0)
+            return &rows->rows[place];
+    return NULL;
+}
+
+/* A member says farewell, so that its place is free. */
+static void leave(struct script *script, struct sides *sides)
+{
+    size_t count = register_count(&sides->rows);
+
+    if (count > 0) {
+        const struct row *row = row_behind(&sides->rows, byte(script) % count);
+
+        farewell_both(sides, row->source, &row->origin);
+    }
+}
+
 static void call_script(struct script *script, struct sides *sides)
 {
     static struct arrival arrival;
@@ -837,12 +887,15 @@ static void call_script(struct script *script, struct sides *sides)
         case 4:
             report_alike(script, sides, said, &report, now);
             break;
-        case 5: {
-            uint32_t from = source(script);
-            struct from its = origin(script);
-            farewell_both(sides, from, &its);
+        case 5:
+            if (said & 16) {
+                leave(script, sides);
+            } else {
+                uint32_t from = source(script);
+                struct from its = origin(script);
+                farewell_both(sides, from, &its);
+            }
             break;
-        }
         case 6:
             sweep_both(sides, now);
             break;
@@ -853,8 +906,9 @@ static void call_script(struct script *script, struct sides *sides)
             choose_both(sides, move(script, now, sides->rows.rate));
             break;
         case 9: /* choosing where a member is just fresh or just not, and sometimes a sweep there */
-            if (sides->rows.count > 0) {
-                const struct told *held = &sides->rows.rows[byte(script) % sides->rows.count].report;
+            if (register_count(&sides->rows) > 0) {
+                size_t before = byte(script) % register_count(&sides->rows);
+                const struct told *held = &row_behind(&sides->rows, before)->report;
                 struct clocks limit = {held->received + ntp_age(script),
                                        held->rtp + rtp_age(script, sides->rows.rate)};
                 choose_both(sides, limit);

@@ -1,11 +1,10 @@
 #include "register.h"
 
-#include <stdbool.h>
 #include <string.h>
 
 /*
  * A fault to be planted, which the comparison must then find:
- * 1: among equally late members the row that was made first is chosen
+ * 1: among equally late members the one at the lowest place is chosen
  * 2: a step of 0 is read as a full turn, 2^32
  * 3: the last byte of the port is not looked at
  * 4: an RTP age of 60 seconds exactly is refused
@@ -13,6 +12,11 @@
  * 6: at a step of 0 the expanded presentation is received
  * 7: at a step of 0 the plus one does not wrap
  * 8: at a step of 0 the low 16 bits of received are cleared
+ * 9: a new row's place is the number of places held behind the last free one (leading zeros)
+ * 10: a new row's place is the lowest that is held (trailing zeros of the word itself)
+ * 11: a new row's place is the one behind the lowest free one
+ * 12: a new row's place is 63 where none is free, so that it replaces the row there
+ * 13: 18 is given where place 63 alone is free
  */
 #ifndef REGISTER_FAULT
 #define REGISTER_FAULT 0
@@ -99,17 +103,61 @@ static bool equal(const struct from *one, const struct from *other)
 
 const struct row *register_row(const struct plain_register *rows, uint32_t source)
 {
-    for (size_t i = 0; i < rows->count; i++)
-        if (rows->rows[i].source == source)
-            return &rows->rows[i];
+    for (size_t place = 0; place < PLACES; place++)
+        if (rows->held[place] && rows->rows[place].source == source)
+            return &rows->rows[place];
     return NULL;
 }
 
-static void take_out(struct plain_register *rows, size_t at)
+const struct row *register_row_at(const struct plain_register *rows, size_t place)
 {
-    rows->count--;
-    for (size_t i = at; i < rows->count; i++)
-        rows->rows[i] = rows->rows[i + 1];
+    return place < PLACES && rows->held[place] ? &rows->rows[place] : NULL;
+}
+
+size_t register_count(const struct plain_register *rows)
+{
+    size_t count = 0;
+
+    for (size_t place = 0; place < PLACES; place++)
+        count += rows->held[place];
+    return count;
+}
+
+/* The lowest place that is held, or that is not; PLACES where there is none. */
+static size_t lowest(const struct plain_register *rows, bool held)
+{
+    size_t place = 0;
+
+    while (place < PLACES && rows->held[place] != held)
+        place++;
+    return place;
+}
+
+static size_t held_behind_last_free(const struct plain_register *rows)
+{
+    size_t count = 0;
+
+    while (count < PLACES && rows->held[PLACES - 1 - count])
+        count++;
+    return count;
+}
+
+/* The place of a new row: the lowest free one, or PLACES where none is free, which is 18. */
+static size_t place_for_new(const struct plain_register *rows)
+{
+    size_t place = lowest(rows, false);
+
+    if (REGISTER_FAULT == 9)
+        return held_behind_last_free(rows);
+    if (REGISTER_FAULT == 10)
+        return lowest(rows, true);
+    if (REGISTER_FAULT == 11 && place < PLACES)
+        return place + 1;
+    if (REGISTER_FAULT == 12 && place == PLACES)
+        return PLACES - 1;
+    if (REGISTER_FAULT == 13 && place == PLACES - 1)
+        return PLACES;
+    return place;
 }
 
 unsigned register_open(struct plain_register *rows, uint32_t group, uint32_t media, uint32_t rate)
@@ -119,7 +167,7 @@ unsigned register_open(struct plain_register *rows, uint32_t group, uint32_t med
     rows->group = group;
     rows->media = media;
     rows->rate = rate;
-    rows->count = 0;
+    memset(rows->held, 0, sizeof rows->held);
     return 0;
 }
 
@@ -138,13 +186,16 @@ unsigned register_report(struct plain_register *rows, const struct row *row, str
         return 16;
     if (report->p && (delay(report) > (whole)(30 * SECOND) || expanded(report) == 0))
         return 17;
-    if (!before && rows->count == MOST_ROWS)
-        return 18;
-
-    if (before)
+    if (before) {
         rows->rows[before - rows->rows].report = *report;
-    else
-        rows->rows[rows->count++] = *row;
+        return 0;
+    }
+
+    size_t place = place_for_new(rows);
+    if (place == PLACES)
+        return 18;
+    rows->held[place] = true;
+    rows->rows[place] = *row;
     return 0;
 }
 
@@ -156,17 +207,17 @@ unsigned register_farewell(struct plain_register *rows, uint32_t source, const s
         return 19;
     if (!equal(&row->origin, origin))
         return 14;
-    take_out(rows, (size_t)(row - rows->rows));
+    rows->held[row - rows->rows] = false;
     return 0;
 }
 
 void register_sweep(struct plain_register *rows, struct clocks now)
 {
-    for (size_t i = 0; i < rows->count;) {
-        if (fresh(rows, &rows->rows[i].report, now))
-            i++;
-        else
-            take_out(rows, i);
+    for (size_t place = 0; place < PLACES; place++) {
+        const struct row *row = register_row_at(rows, place);
+
+        if (row && !fresh(rows, &row->report, now))
+            rows->held[place] = false;
     }
 }
 
@@ -177,14 +228,17 @@ struct choice register_choose(const struct plain_register *rows, struct clocks n
     whole latest = 0;
     bool by_arrival = true;
 
-    for (size_t i = 0; i < rows->count; i++)
-        if (rows->rows[i].report.p && fresh(rows, &rows->rows[i].report, now))
+    for (size_t place = 0; place < PLACES; place++) {
+        const struct row *row = register_row_at(rows, place);
+
+        if (row && row->report.p && fresh(rows, &row->report, now))
             by_arrival = false;
+    }
 
-    for (size_t i = 0; i < rows->count; i++) {
-        const struct row *row = &rows->rows[i];
+    for (size_t place = 0; place < PLACES; place++) {
+        const struct row *row = register_row_at(rows, place);
 
-        if (!fresh(rows, &row->report, now) || (!by_arrival && !row->report.p))
+        if (!row || !fresh(rows, &row->report, now) || (!by_arrival && !row->report.p))
             continue;
         choice.counted++;
         whole late = lateness(rows, &row->report, by_arrival, now);

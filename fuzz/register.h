@@ -1,15 +1,16 @@
 /*
- * The plain register and choosing, written from document 01 and E3 of document 02
- * alone. It is fed the calls' arguments and nothing from the table that it is
- * compared with.
+ * The plain register and choosing, written from document 01 and E3 and E4 of
+ * document 02 alone. It is fed the calls' arguments and nothing from the table that
+ * it is compared with.
  */
 #ifndef FUZZ_REGISTER_H
 #define FUZZ_REGISTER_H
 
+#include <stdbool.h>
 #include <stddef.h>
 #include <stdint.h>
 
-#define MOST_ROWS 64
+#define PLACES 64
 
 /* Sixteen bytes of address and two of port. */
 struct from {
@@ -33,13 +34,13 @@ struct row {
     struct told report;
 };
 
-/* The rows stand in the order in which they were made. */
+/* Each row stands at its member's place. What stands at a place that is not held is no row. */
 struct plain_register {
     uint32_t group;
     uint32_t media;
     uint32_t rate;
-    size_t count;
-    struct row rows[MOST_ROWS];
+    bool held[PLACES];
+    struct row rows[PLACES];
 };
 
 /* The sender's clocks: NTP time N and RTP time R. */
@@ -75,7 +76,11 @@ struct choice register_choose(const struct plain_register *rows, struct clocks n
 /* Whether a report, where P is 1, says presented in the slot of 2^-16 s in which it was received: the step is 0. */
 int register_same_slot(const struct told *report);
 
-/* The row of a source number, or null. */
+/* The row of a source number, and the row at any place, or null. */
 const struct row *register_row(const struct plain_register *rows, uint32_t source);
+const struct row *register_row_at(const struct plain_register *rows, size_t place);
+
+/* How many rows there are. */
+size_t register_count(const struct plain_register *rows);
 
 #endif

@@ -334,9 +334,10 @@ struct prunepocket_followed {
 struct prunepocket_answered prunepocket_open(uint32_t group, uint32_t media, uint32_t rate);
 
 /*
- * Takes a report that arrived at the sender's reading. Accepted, it stands in
- * place of the member's report before, also where its received time is earlier;
- * a new member takes the lowest free place.
+ * Takes a report that arrived at the sender's reading. Accepted, it replaces the
+ * member's report before, also where its received time is earlier, and the
+ * member keeps its place; a new member takes the lowest free place. Every other
+ * place is as before.
  * Refusals, in this order: 13 where group or media source are not the table's;
  * 14 where another origin holds the source number; 15 where it was received
  * after the reading, or more than 30 s before it; 16 where its RTP time is after

@@ -70,6 +70,16 @@ impl Pair {
         answered.number
     }
 
+    /// Panics where the two differ.
+    fn farewell(&mut self, record: &peer::Record) -> u64 {
+        let answered = self.ours.farewell(record.source, &record.origin);
+        let answer = self.peers.farewell(record.source, &record.origin);
+        assert_eq!(answered.number, answer.err().unwrap_or(0));
+        self.ours = answered.table;
+        self.agree(&READING);
+        answered.number
+    }
+
     fn agree(&self, reading: &Reading) {
         let followed = self.ours.choose(reading);
         assert_eq!(followed.choice(), self.peers.choose(reading));
@@ -96,11 +106,23 @@ fn time_report_of(members: u32, make: fn(u32) -> peer::Record) -> (f64, f64) {
     let known = make(members.max(1));
     let mut pair = Pair::with(members);
     assert_eq!(pair.report(&known, &READING), 0);
+    time_one_report(pair, &known)
+}
+
+/// A report of one more source than there are places: 18.
+fn time_refused_report(members: u32) -> (f64, f64) {
+    let surplus = record(members + 1);
+    let mut pair = Pair::with(members);
+    assert_eq!(pair.report(&surplus, &READING), 18);
+    time_one_report(pair, &surplus)
+}
+
+fn time_one_report(pair: Pair, sent: &peer::Record) -> (f64, f64) {
     let Pair {
         mut ours,
         mut peers,
     } = pair;
-    let told = Record::from(&known);
+    let told = Record::from(sent);
     interleaved(
         1,
         || {
@@ -109,7 +131,37 @@ fn time_report_of(members: u32, make: fn(u32) -> peer::Record) -> (f64, f64) {
             black_box(answer.number);
         },
         || {
-            let _ = black_box(black_box(&mut peers).report(black_box(&known), black_box(&READING)));
+            let _ = black_box(black_box(&mut peers).report(black_box(sent), black_box(&READING)));
+        },
+    )
+}
+
+/// A report of a new source, which takes the lowest free place, and the farewell that
+/// frees it again. Both calls are timed, on either side.
+fn time_new_member(members: u32) -> (f64, f64) {
+    let new = record(members + 1);
+    let mut pair = Pair::with(members);
+    assert_eq!(pair.report(&new, &READING), 0);
+    assert_eq!(pair.farewell(&new), 0);
+    let Pair {
+        mut ours,
+        mut peers,
+    } = pair;
+    let told = Record::from(&new);
+    interleaved(
+        1,
+        || {
+            let answer = ours.report(&told, &READING);
+            black_box(answer.number);
+            let answer = answer.table.farewell(told.source, &told.origin);
+            ours = answer.table;
+            black_box(answer.number);
+        },
+        || {
+            let peers = black_box(&mut peers);
+            let _ = black_box(peers.report(black_box(&new), black_box(&READING)));
+            let peers = black_box(peers);
+            let _ = black_box(peers.farewell(black_box(new.source), black_box(&new.origin)));
         },
     )
 }
@@ -183,22 +235,34 @@ fn time_copy(members: u32) -> (f64, f64) {
     )
 }
 
+/// A row's name, what it times, and with how many members.
+type Row = (&'static str, fn(u32) -> (f64, f64), &'static [u32]);
+
+/// From no member to a full table.
+const ANY: &[u32] = &[0, 1, 32, 64];
+
+/// From no member to a single free place.
+const WITH_ROOM: &[u32] = &[0, 1, 32, 63];
+
+const CALLS: [Row; 8] = [
+    ("copy of the table", time_copy, ANY),
+    ("report", time_report, ANY),
+    ("report, wired", time_wired_report, ANY),
+    ("report, new, then farewell", time_new_member, WITH_ROOM),
+    ("report, new, refused", time_refused_report, &[64]),
+    ("farewell, refused", time_refused_farewell, ANY),
+    ("sweep", time_sweep, ANY),
+    ("choose", time_choose, ANY),
+];
+
 pub fn print() {
     println!();
     println!(
         "{:<32}{:>8}{:>10}{:>10}{:>12}",
         "member table", "members", "ours ns", "peer ns", "ours/peer"
     );
-    let calls: [(&str, fn(u32) -> (f64, f64)); 6] = [
-        ("copy of the table", time_copy),
-        ("report", time_report),
-        ("report, wired", time_wired_report),
-        ("farewell, refused", time_refused_farewell),
-        ("sweep", time_sweep),
-        ("choose", time_choose),
-    ];
-    for (name, time) in calls {
-        for members in [0, 1, 32, 64] {
+    for (name, time, members) in CALLS {
+        for &members in members {
             let (ours, peers) = time(members);
             println!(
                 "{name:<32}{members:>8}{ours:>10.1}{peers:>10.1}{:>12.2}",

@@ -1,6 +1,6 @@
 /*
  * Calls every function of the member table in prunepocket.h. Holds each struct of C to the bytes
- * that the archive writes, answers to what documents 01 and 02 (E3) say at the limits, and each
+ * that the archive writes, answers to what documents 01 and 02 (E3, E4) say at the limits, and each
  * table after a refusal to the one before, field by field, padding aside. The table's own fields
  * are looked at here alone: a host does not. The papers' cases are in test_scenes.c.
  */
@@ -42,6 +42,62 @@ static record_t record_20(void)
 static record_t arrival(uint32_t source)
 {
     return (record_t){source, unit(30), {SECONDS(1000), GROUP, MEDIA, 9000000, 0, 33, 0}};
+}
+
+static uint64_t next_random(void)
+{
+    static uint64_t state = UINT64_C(0x9E3779B97F4A7C15);
+
+    state ^= state << 13;
+    state ^= state >> 7;
+    state ^= state << 17;
+    return state;
+}
+
+/* ---- The word of places held ----------------------------------------------------------------- */
+
+/* The first place is the lowest bit. */
+static int is_held(uint64_t word, size_t place)
+{
+    return (word >> place & 1) == 1;
+}
+
+static uint64_t with_place(uint64_t word, size_t place)
+{
+    return word | UINT64_C(1) << place;
+}
+
+/* The lowest free place, or PRUNEPOCKET_PLACES where none is free. */
+static size_t lowest_free(uint64_t word)
+{
+    size_t place = 0;
+
+    while (place < PRUNEPOCKET_PLACES && is_held(word, place))
+        place++;
+    return place;
+}
+
+static unsigned count_held(uint64_t word)
+{
+    unsigned count = 0;
+
+    for (size_t place = 0; place < PRUNEPOCKET_PLACES; place++) {
+        if (is_held(word, place))
+            count++;
+    }
+    return count;
+}
+
+/* All places below the lowest free one are held, and above it those that another word holds. */
+static uint64_t word_with(size_t lowest, uint64_t above)
+{
+    uint64_t word = 0;
+
+    for (size_t place = 0; place < PRUNEPOCKET_PLACES; place++) {
+        if (place < lowest || (place > lowest && is_held(above, place)))
+            word = with_place(word, place);
+    }
+    return word;
 }
 
 /* ---- Equality, padding aside ----------------------------------------------------------------- */
@@ -108,22 +164,56 @@ static table_t sweep(table_t table, reading_t reading, uint32_t members)
     return answered.table;
 }
 
-/* The member at a place stands on this record. */
+/* A place is held by a member that stands on this record, or where that is null, not held. */
+static void check_at(const table_t *table, size_t place, const record_t *record)
+{
+    static const record_t zeros;
+    place_t at = prunepocket_member_at(*table, place);
+
+    check_equal("member_at: held", at.held, record != NULL);
+    check_true("member_at: member", same_record(&at.member, record != NULL ? record : &zeros));
+}
+
 static void check_member(table_t table, size_t place, record_t record)
 {
-    place_t at = prunepocket_member_at(table, place);
-
-    check_equal("member_at: held", at.held, 1);
-    check_true("member_at: member", same_record(&at.member, &record));
+    check_at(&table, place, &record);
 }
 
 static void check_vacant(table_t table, size_t place)
 {
-    static const record_t zeros;
-    place_t at = prunepocket_member_at(table, place);
+    check_at(&table, place, NULL);
+}
 
-    check_equal("member_at: not held", at.held, 0);
-    check_true("member_at: zeros", same_record(&at.member, &zeros));
+/* The calls show one table as another has it. */
+static void check_place(const table_t *table, size_t place, const table_t *expected)
+{
+    check_at(table, place, is_held(expected->held, place) ? &expected->members[place] : NULL);
+}
+
+static void check_places(const table_t *table, const table_t *expected)
+{
+    check_equal("members", prunepocket_count_members(*table), count_held(expected->held));
+    for (size_t place = 0; place < PRUNEPOCKET_PLACES; place++)
+        check_place(table, place, expected);
+}
+
+/*
+ * What a new member's report got that meets none of 13 to 17: the lowest free place, or 18 where
+ * none is free. All else in the table is as before.
+ */
+static void check_new_member(const answered_t *answered, table_t table, record_t record)
+{
+    size_t place = lowest_free(table.held);
+    uint64_t number = PRUNEPOCKET_NO_ROOM;
+
+    if (place < PRUNEPOCKET_PLACES) {
+        number = PRUNEPOCKET_ACCEPTED;
+        table.held = with_place(table.held, place);
+        table.members[place] = record;
+    }
+    check_equal("new member: number", answered->number, number);
+    check_equal("new member: places held", answered->table.held, table.held);
+    check_true("new member: the table", same_table(&answered->table, &table));
 }
 
 /* The target, and the table is as before. */
@@ -1351,6 +1441,148 @@ static void test_two_tables(void)
     check_none_fresh(other, now);
 }
 
+/* ---- Every kind of word ---------------------------------------------------------------------- */
+
+/* Random words for each lowest free place that has others above it. */
+#define RANDOM_WORDS 50
+
+/* Sources 100 to 163 stand at the places, and the word says which of them are held. */
+static table_t table_of(uint64_t word)
+{
+    table_t table = opened();
+
+    table.held = word;
+    for (uint32_t i = 0; i < PRUNEPOCKET_PLACES; i++)
+        table.members[i] = arrival(100 + i);
+    return table;
+}
+
+/* The word as the name of a case. */
+static const char *word_name(uint64_t word)
+{
+    static char text[40];
+
+    snprintf(text, sizeof text, "places held: %016" PRIX64, word);
+    return text;
+}
+
+/* C writes the word, and a new member reports. */
+static void check_written(size_t lowest, uint64_t above)
+{
+    uint64_t word = word_with(lowest, above);
+    table_t table;
+    answered_t answered;
+
+    CASE(word_name(word));
+    table = table_of(word);
+    check_equal("lowest free place", lowest_free(word), lowest);
+    check_places(&table, &table);
+    answered = prunepocket_report(table, record_10(), now);
+    check_new_member(&answered, table, record_10());
+}
+
+/* The full table after the farewells of all whose places the word does not hold. */
+static table_t left_by_farewells(table_t table, uint64_t word)
+{
+    for (uint32_t i = 0; i < PRUNEPOCKET_PLACES; i++) {
+        if (!is_held(word, i))
+            table = farewell(table, 100 + i, unit(30), PRUNEPOCKET_ACCEPTED);
+    }
+    return table;
+}
+
+/* Calls alone lead to the word; sources from 200 on take the free places, and one more gets 18. */
+static void check_called(const table_t *full, size_t lowest, uint64_t above)
+{
+    uint64_t word = word_with(lowest, above);
+    uint32_t last = 200 + PRUNEPOCKET_PLACES - count_held(word);
+    table_t expected;
+    table_t table;
+
+    CASE(word_name(word));
+    expected = table_of(word);
+    table = left_by_farewells(*full, word);
+    check_places(&table, &expected);
+    for (uint32_t source = 200; source < last; source++) {
+        size_t place = lowest_free(expected.held);
+
+        table = report(table, arrival(source), now, PRUNEPOCKET_ACCEPTED);
+        check_member(table, place, arrival(source));
+        expected.held = with_place(expected.held, place);
+        expected.members[place] = arrival(source);
+    }
+    check_places(&table, &expected);
+    report(table, arrival(last), now, PRUNEPOCKET_NO_ROOM);
+}
+
+/* None above, all (a single free place, or none), alternating from either, and the last alone. */
+static void test_words(void)
+{
+    static const uint64_t above[] = {
+        0,
+        UINT64_MAX,
+        UINT64_C(0x5555555555555555),
+        UINT64_C(0xAAAAAAAAAAAAAAAA),
+        UINT64_C(1) << 63,
+    };
+    table_t full;
+
+    CASE("every lowest free place, and none");
+    full = full_table();
+    for (size_t lowest = 0; lowest <= PRUNEPOCKET_PLACES; lowest++) {
+        for (size_t i = 0; i < LENGTH(above); i++) {
+            check_written(lowest, above[i]);
+            check_called(&full, lowest, above[i]);
+        }
+    }
+}
+
+static void test_single_places(void)
+{
+    table_t full;
+
+    CASE("a single place held");
+    full = full_table();
+    for (size_t place = 0; place < PRUNEPOCKET_PLACES; place++) {
+        size_t lowest = place == 0 ? 1 : 0;
+
+        check_written(lowest, with_place(0, place));
+        check_called(&full, lowest, with_place(0, place));
+    }
+}
+
+static void test_random_words(void)
+{
+    table_t full;
+
+    CASE("random places held above the lowest free one");
+    full = full_table();
+    for (size_t lowest = 0; lowest < PRUNEPOCKET_PLACES - 1; lowest++) {
+        for (int i = 0; i < RANDOM_WORDS; i++)
+            check_written(lowest, next_random());
+        check_called(&full, lowest, next_random());
+    }
+}
+
+/* 18 is for new members alone. */
+static void test_own_reports(void)
+{
+    table_t table;
+
+    CASE("each member's next report, where all places are held");
+    table = table_of(UINT64_MAX);
+    for (uint32_t i = 0; i < PRUNEPOCKET_PLACES; i++) {
+        record_t record = arrival(100 + i);
+        table_t expected = table;
+        table_t after;
+
+        record.report.received -= 1;
+        expected.members[i] = record;
+        after = report(table, record, now, PRUNEPOCKET_ACCEPTED);
+        check_true("the report stands at the member's place", same_table(&after, &expected));
+    }
+}
+
 /* ---- Tables that C has written on ------------------------------------------------------------ */
 
 #define RANDOM_TABLES 1000
@@ -1365,15 +1597,8 @@ static unsigned long met[21];
 static unsigned long met_step_0;
 static unsigned long judged_step_0[2];
 
-static uint64_t next_random(void)
-{
-    static uint64_t state = UINT64_C(0x9E3779B97F4A7C15);
-
-    state ^= state << 13;
-    state ^= state >> 7;
-    state ^= state << 17;
-    return state;
-}
+/* Random reports of new members that 13 to 17 let pass, by the lowest free place. */
+static unsigned long judged_new[PRUNEPOCKET_PLACES + 1];
 
 /* Any bytes, or few different ones, so that numbers and origins meet. */
 static void fill_random(void *memory, size_t bytes, int few)
@@ -1390,6 +1615,8 @@ static table_t random_table(int few)
     table_t table;
 
     fill_random(&table, sizeof table, few);
+    if (next_random() % 2 == 0)
+        table.held = word_with(next_random() % PRUNEPOCKET_PLACES, table.held);
     if (next_random() % 4 == 0)
         table.held = UINT64_MAX;
     return table;
@@ -1438,15 +1665,6 @@ static void check_number(const char *what, uint64_t number, uint64_t low, uint64
         met[number]++;
 }
 
-static unsigned ones(uint64_t word)
-{
-    unsigned count = 0;
-
-    for (; word != 0; word &= word - 1)
-        count++;
-    return count;
-}
-
 /* At a step of 0, 17 is given exactly where received is all ones, but for 13 to 16 before it. */
 static void check_step_0(const struct prunepocket_report_fields *fields, uint64_t number)
 {
@@ -1461,20 +1679,30 @@ static void check_step_0(const struct prunepocket_report_fields *fields, uint64_
     }
 }
 
+static int is_member(const table_t *table, uint32_t source)
+{
+    for (size_t place = 0; place < PRUNEPOCKET_PLACES; place++) {
+        if (is_held(table->held, place) && table->members[place].source == source)
+            return 1;
+    }
+    return 0;
+}
+
 static void random_report(table_t table, record_t record, reading_t reading)
 {
     answered_t answered = prunepocket_report(table, record, reading);
-    uint64_t added = answered.table.held & ~table.held;
 
     check_number("report: number", answered.number, 13, 18);
     check_step_0(&record.report, answered.number);
-    if (answered.number != 0) {
+    if (answered.number >= 13 && answered.number <= 17) {
         check_true("report: the table as before", same_table(&answered.table, &table));
-        return;
+    } else if (is_member(&table, record.source)) {
+        check_equal("member: number", answered.number, PRUNEPOCKET_ACCEPTED);
+        check_equal("member: places held", answered.table.held, table.held);
+    } else {
+        judged_new[lowest_free(table.held)]++;
+        check_new_member(&answered, table, record);
     }
-    check_true("report: one place more, the lowest free, or none",
-               added == 0 || added == (~table.held & (table.held + 1)));
-    check_equal("report: places kept", table.held & ~answered.table.held, 0);
 }
 
 static void random_farewell(table_t table, uint32_t source, origin_t origin)
@@ -1484,7 +1712,7 @@ static void random_farewell(table_t table, uint32_t source, origin_t origin)
 
     check_number("farewell: number", answered.number, 14, 19);
     check_true("farewell: not 15 to 18", answered.number < 15 || answered.number > 18);
-    check_equal("farewell: removed", ones(removed), answered.number == 0);
+    check_equal("farewell: removed", count_held(removed), answered.number == 0);
     answered.table.held |= removed;
     check_true("farewell: all else as before", same_table(&answered.table, &table));
 }
@@ -1499,7 +1727,7 @@ static void random_choice(table_t table, reading_t reading)
     check_equal("sweep: no place more", swept.table.held & ~table.held, 0);
     check_number("choose: number", followed.number, 20, 20);
     check_equal("choose: 20", followed.number == 20, swept.table.held == 0);
-    check_true("choose: counted", followed.target.counted <= ones(swept.table.held));
+    check_true("choose: counted", followed.target.counted <= count_held(swept.table.held));
     check_true("choose: the table as before", same_table(&followed.table, &table));
     swept.table.held = table.held;
     check_true("sweep: all else as before", same_table(&swept.table, &table));
@@ -1509,14 +1737,10 @@ static void random_places(table_t table)
 {
     size_t place = (size_t)next_random();
 
-    check_equal("members", prunepocket_count_members(table), ones(table.held));
+    check_equal("members", prunepocket_count_members(table), count_held(table.held));
     if (place >= PRUNEPOCKET_PLACES)
         check_vacant(table, place);
-    place %= PRUNEPOCKET_PLACES;
-    if (table.held >> place & 1)
-        check_member(table, place, table.members[place]);
-    else
-        check_vacant(table, place);
+    check_place(&table, place % PRUNEPOCKET_PLACES, &table);
 }
 
 static void random_opening(void)
@@ -1527,6 +1751,22 @@ static void random_opening(void)
 
     check_number("open: number", answered.number, 12, 12);
     check_equal("open: members", prunepocket_count_members(answered.table), 0);
+}
+
+static void check_new_members_met(void)
+{
+    unsigned long placed = 0;
+    unsigned places = 0;
+
+    for (size_t place = 0; place < PRUNEPOCKET_PLACES; place++) {
+        placed += judged_new[place];
+        places += judged_new[place] > 0;
+    }
+    CASE("new members that 13 to 17 let pass were met on random tables");
+    check_true("one report of ten or more got a place", placed >= RANDOM_TABLES / 10);
+    check_true("at half of the places or more", places >= PRUNEPOCKET_PLACES / 2);
+    check_true("one report of fifty or more got 18",
+               judged_new[PRUNEPOCKET_PLACES] >= RANDOM_TABLES / 50);
 }
 
 static void test_random_tables(void)
@@ -1555,6 +1795,7 @@ static void test_random_tables(void)
     check_true("met", met_step_0 >= RANDOM_TABLES / 10);
     check_true("accepted, or 18", judged_step_0[0] >= RANDOM_TABLES / 100);
     check_true("17 where received is all ones", judged_step_0[1] > 0);
+    check_new_members_met();
 }
 
 int main(void)
@@ -1592,6 +1833,10 @@ int main(void)
     test_small_differences();
     test_datagrams();
     test_two_tables();
+    test_words();
+    test_single_places();
+    test_random_words();
+    test_own_reports();
     test_random_tables();
     return finish_checks();
 }

@@ -335,7 +335,7 @@ impl Asked {
     }
 }
 
-pub(crate) fn same<T: PartialEq + Debug>(name: Arguments, archive: &T, expected: &T) -> Verdict {
+pub fn same<T: PartialEq + Debug>(name: Arguments, archive: &T, expected: &T) -> Verdict {
     if archive == expected {
         return Ok(());
     }

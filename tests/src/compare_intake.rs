@@ -13,6 +13,7 @@ use crate::generator::Rng;
 use crate::intake::{Answer, Fault, Intake};
 use crate::items::{Item, Refusal};
 use crate::members::{Call, Reading};
+use crate::places::{Joins, PLACES};
 use crate::register::step;
 use prunepocket_sys::{DatagramAnswered, Place, Table};
 use std::slice::from_ref;
@@ -41,6 +42,8 @@ pub struct Tally {
     pub step_zero: u64,
     pub step_zero_accepted: u64,
     pub step_zero_refused: u64,
+    /// New members that the datagrams made.
+    pub joins: Joins,
     /// Settings that were passed by.
     pub settings: u64,
     /// Datagrams with an accepted call, and with calls of several answers.
@@ -153,6 +156,7 @@ impl IntakeComparison {
     fn check_arrival(&mut self, sides: &mut Sides, arrival: &Arrival) -> Verdict {
         let answer = self.check_take(sides, arrival)?;
         self.tally.count_answer(arrival, &answer);
+        self.tally.joins.add(&sides.intake.joins);
         if answer.number == 0 {
             self.tally.spare += arrival.length as u64 - answer.count;
         }
@@ -220,11 +224,11 @@ impl IntakeComparison {
             let shown = sides.table.member_at(place);
             same(format_args!("place {place}"), &shown, &expected)?;
         }
-        let count = members.iter().flatten().count();
+        let count = sides.intake.count_members();
         let answer = sides.table.count_members();
         same(format_args!("how many members"), &answer, &(count as u32))?;
         self.tally.empty_tables += u64::from(count == 0);
-        self.tally.full_tables += u64::from(count == members.len());
+        self.tally.full_tables += u64::from(count == PLACES);
         self.tally.members += count as u64;
         Ok(())
     }

@@ -1,17 +1,28 @@
 //! The comparison of the archive's member table with the plain register, call
-//! by call, and of its targets with their definition.
+//! by call, of the places that new members take with the rule, and of its targets
+//! with their definition.
 
 use crate::archive;
 use crate::compare::{same, Verdict};
 use crate::generator::Rng;
 use crate::histories::{History, Step};
 use crate::members::{Call, Opening, Reading, Record, ReportFields, Target};
-use crate::register::{step, Fault, Register};
+use crate::places::{self, count_held_with, lowest_free_with, Held, Joins, PLACES};
+use crate::register::{self, step, Register};
 use crate::target::{AtReading, Seen};
-use prunepocket_sys::{Answered, Place, Table, PLACES};
+use prunepocket_sys::{Answered, Place, Table};
+use std::array::from_fn;
+use std::cell::OnceCell;
 
 /// Kinds of calls, as columns of a tally.
 pub const KINDS: [&str; 5] = ["open", "report", "farewell", "sweep", "choose"];
+
+/// What errs where a fault is planted.
+#[derive(Clone, Copy, Debug, PartialEq, Eq)]
+pub enum Fault {
+    Register(register::Fault),
+    Places(places::Fault),
+}
 
 /// How often each thing was met.
 #[derive(Default)]
@@ -23,6 +34,7 @@ pub struct Tally {
     pub member_lists: u64,
     pub full_lists: u64,
     pub members: u64,
+    pub joins: Joins,
     pub step_zero: StepZero,
     pub targets: Targets,
 }
@@ -75,11 +87,53 @@ impl Tally {
     }
 }
 
+/// A table of the archive, with its places once they have been looked at.
+struct Shown {
+    table: Table,
+    places: OnceCell<[Place; PLACES]>,
+}
+
+impl Shown {
+    fn new(table: Table) -> Self {
+        let places = OnceCell::new();
+        Shown { table, places }
+    }
+
+    fn places(&self) -> &[Place; PLACES] {
+        let look = || from_fn(|place| self.table.member_at(place));
+        self.places.get_or_init(look)
+    }
+
+    fn held(&self) -> Held {
+        self.places().map(|place| place.held == 1)
+    }
+
+    fn members(&self) -> Vec<Record> {
+        let held = self.places().iter().filter(|place| place.held == 1);
+        held.map(|place| place.member).collect()
+    }
+
+    /// The word marks the places with a member; any other shows zeros.
+    fn check_places(&self) -> Verdict {
+        for (place, shown) in self.places().iter().enumerate() {
+            let held = (self.table.held >> place) as u32 & 1;
+            same(format_args!("whether {place} is held"), &shown.held, &held)?;
+            if held == 0 {
+                let free = Place::default();
+                same(format_args!("the free place {place}"), shown, &free)?;
+            }
+        }
+        Ok(())
+    }
+}
+
 /// The two sides, opened alike.
 struct Sides {
     opening: Opening,
-    table: Table,
+    shown: Shown,
     register: Register,
+    /// The places that have had a member.
+    used: Held,
 }
 
 pub struct TableComparison {
@@ -89,12 +143,26 @@ pub struct TableComparison {
 }
 
 impl TableComparison {
-    /// With a planted fault, the register is the one that errs.
+    /// With a planted fault, the independent side is the one that errs.
     pub fn new(seed: u64, fault: Option<Fault>) -> Self {
         TableComparison {
             fault,
             rng: Rng::new(!seed),
             tally: Tally::default(),
+        }
+    }
+
+    fn register_fault(&self) -> Option<register::Fault> {
+        match self.fault {
+            Some(Fault::Register(fault)) => Some(fault),
+            _ => None,
+        }
+    }
+
+    fn places_fault(&self) -> Option<places::Fault> {
+        match self.fault {
+            Some(Fault::Places(fault)) => Some(fault),
+            _ => None,
         }
     }
 
@@ -114,7 +182,7 @@ impl TableComparison {
 
     fn open(&mut self, opening: &Opening) -> Result<Option<Sides>, String> {
         let table = archive::open(opening);
-        let register = Register::open(opening, self.fault);
+        let register = Register::open(opening, self.register_fault());
         let number = |refused: Option<&u64>| refused.copied().unwrap_or(0);
         let answer = number(table.as_ref().err());
         let expected = number(register.as_ref().err());
@@ -125,8 +193,9 @@ impl TableComparison {
         };
         Ok(Some(Sides {
             opening: *opening,
-            table,
+            shown: Shown::new(table),
             register,
+            used: [false; PLACES],
         }))
     }
 
@@ -141,38 +210,68 @@ impl TableComparison {
     fn check_call(&mut self, sides: &mut Sides, call: &Call) -> Verdict {
         let rows = sides.register.rows().len();
         let expected = sides.register.call(call);
-        let Answered { number, table } = archive::call(&sides.table, call);
+        let Answered { number, table } = archive::call(&sides.shown.table, call);
         same(format_args!("the answer"), &number, &expected)?;
         self.tally.answers[kind(call)][number as usize] += 1;
-        if number != 0 && table != sides.table {
+        if number != 0 && table != sides.shown.table {
             return Err(String::from("the table after a refusal is not as before"));
         }
+        let after = Shown::new(table);
         if let Call::Report(told, _) = call {
             self.tally.step_zero.count(&told.report, number);
-            if sides.register.rows().len() > rows {
-                check_new_place(&sides.table, &table, told)?;
+            if sides.register.rows().len() > rows || number == 18 {
+                self.check_join(sides, number, &after, told)?;
             }
         }
-        sides.table = table;
+        // A refusal leaves the same table, which may have been looked at.
+        if number == 0 {
+            sides.shown = after;
+        }
         Ok(())
     }
 
-    /// Members and rows one to one, whatever their order.
+    /// A report of a new source that meets none of 13 to 17 gets 18 exactly where
+    /// no place is shown free. Else it stands at the lowest free one, and all others
+    /// are as before.
+    fn check_join(
+        &mut self,
+        sides: &mut Sides,
+        number: u64,
+        after: &Shown,
+        told: &Record,
+    ) -> Verdict {
+        let held = sides.shown.held();
+        let free = lowest_free_with(&held, self.places_fault());
+        let expected = if free.is_some() { 0 } else { 18 };
+        same(format_args!("a new member"), &number, &expected)?;
+        let mut places = *sides.shown.places();
+        if let Some(place) = free {
+            let member = *told;
+            places[place] = Place { held: 1, member };
+            self.tally.joins.count(&held, &mut sides.used, place);
+        }
+        for (place, (shown, expected)) in after.places().iter().zip(&places).enumerate() {
+            same(format_args!("place {place}"), shown, expected)?;
+        }
+        Ok(())
+    }
+
+    /// As many members as places are shown held. Members and rows one to one,
+    /// whatever their order.
     fn check_members(&mut self, sides: &Sides) -> Verdict {
-        let mut members = members_of(&sides.table)?;
+        let Shown { table, .. } = &sides.shown;
+        sides.shown.check_places()?;
+        let held = count_held_with(&sides.shown.held(), self.places_fault());
+        let count = table.count_members();
+        same(format_args!("how many members"), &count, &(held as u32))?;
+        let mut members = sides.shown.members();
         let mut rows = sides.register.rows().to_vec();
-        let count = sides.table.count_members();
-        same(
-            format_args!("how many members"),
-            &count,
-            &(rows.len() as u32),
-        )?;
         members.sort_by_key(|member| member.source);
         rows.sort_by_key(|row| row.source);
         same(format_args!("the members"), &members, &rows)?;
         let outside = PLACES + (self.rng.number() as usize >> self.rng.between(1, 63));
         for place in [PLACES, outside, usize::MAX] {
-            let shown = sides.table.member_at(place);
+            let shown = table.member_at(place);
             same(format_args!("place {place}"), &shown, &Place::default())?;
         }
         self.tally.member_lists += 1;
@@ -185,10 +284,10 @@ impl TableComparison {
     /// the table as it was.
     fn check_choice(&mut self, sides: &Sides, reading: &Reading) -> Verdict {
         let expected = sides.register.choose(reading);
-        let followed = sides.table.choose(reading);
+        let followed = sides.shown.table.choose(reading);
         let choice = followed.choice();
         same(format_args!("the choice"), &choice, &expected)?;
-        if followed.table != sides.table {
+        if followed.table != sides.shown.table {
             return Err(String::from("the table after choosing is not as before"));
         }
         if choice.is_err() {
@@ -203,7 +302,7 @@ impl TableComparison {
         let at_reading = AtReading {
             rate: sides.opening.rate,
             reading: *reading,
-            members: &members_of(&sides.table)?,
+            members: &sides.shown.members(),
         };
         let seen = at_reading.check(&choice, &samples(&mut self.rng));
         let seen = seen.map_err(|wrong| format!("the target {choice:?}: {wrong}"))?;
@@ -255,36 +354,6 @@ fn kind(call: &Call) -> usize {
         Call::Farewell(..) => 2,
         Call::Sweep(_) => 3,
     }
-}
-
-/// A new member takes the lowest free place.
-fn check_new_place(before: &Table, after: &Table, told: &Record) -> Verdict {
-    let place = before.held.trailing_ones();
-    let held = before.held | 1 << place;
-    same(format_args!("the places held"), &after.held, &held)?;
-    let expected = Place {
-        held: 1,
-        member: *told,
-    };
-    let shown = after.member_at(place as usize);
-    same(format_args!("the lowest free place"), &shown, &expected)
-}
-
-/// The members at all places.
-fn members_of(table: &Table) -> Result<Vec<Record>, String> {
-    let mut members = Vec::new();
-    for place in 0..PLACES {
-        let shown = table.member_at(place);
-        match shown.held {
-            1 => members.push(shown.member),
-            _ => same(
-                format_args!("the free place {place}"),
-                &shown,
-                &Place::default(),
-            )?,
-        }
-    }
-    Ok(members)
 }
 
 /// The reading's own sample, the ones beside it, and any others before and

@@ -56,7 +56,8 @@ pub(crate) fn history_with_world(rng: &mut Rng) -> (History, World) {
     let temper = Temper::any(rng);
     let length = temper.length;
     let mut world = World::new(rng, opening, temper);
-    let steps = (0..length).map(|_| world.step(rng)).collect();
+    let mut steps = world.fill(rng);
+    steps.extend((0..length).map(|_| world.step(rng)));
     (History { opening, steps }, world)
 }
 
@@ -79,11 +80,13 @@ fn opening(rng: &mut Rng) -> Opening {
     Opening { group, media, rate }
 }
 
-/// What a history is like; all but the first three in percent.
+/// What a history is like; all but the first four in percent.
 struct Temper {
     length: usize,
     sources: usize,
     origins: usize,
+    /// Sources that report in turn beforehand.
+    filled: usize,
     /// Calls from an origin that is not the source's own.
     twins: usize,
     /// Fields at a limit, or wrong.
@@ -102,6 +105,7 @@ impl Temper {
     fn any(rng: &mut Rng) -> Self {
         match rng.below(10) {
             0..=1 => Temper::crowded(rng),
+            2 => Temper::filled(rng),
             _ => Temper::mixed(rng),
         }
     }
@@ -112,6 +116,7 @@ impl Temper {
             length: rng.between(150, 450),
             sources: rng.between(60, 70),
             origins: rng.pick(&[1, 2, 70]),
+            filled: 0,
             twins: 2,
             edges: rng.pick(&[1, 3]),
             echoes: rng.pick(&[5, 30]),
@@ -123,12 +128,24 @@ impl Temper {
         }
     }
 
+    /// A table that is full or about to be, so that the last places are taken.
+    fn filled(rng: &mut Rng) -> Self {
+        Temper {
+            length: rng.between(1, 8),
+            sources: rng.between(80, 120),
+            filled: rng.between(62, 68),
+            farewells: rng.pick(&[4, 10]),
+            ..Temper::crowded(rng)
+        }
+    }
+
     fn mixed(rng: &mut Rng) -> Self {
         let longest = rng.pick(&[4, 20, 80, 200]);
         Temper {
             length: rng.between(1, longest),
             sources: rng.pick(&[1, 2, 2, 3, 8, 30]),
             origins: rng.pick(&[1, 2, 3, 8, 40]),
+            filled: 0,
             twins: rng.pick(&[2, 10, 40]),
             edges: rng.pick(&[2, 5, 20]),
             echoes: rng.pick(&[2, 20, 60]),
@@ -163,6 +180,17 @@ impl World {
         }
     }
 
+    /// A report of each of the first sources, in turn.
+    fn fill(&mut self, rng: &mut Rng) -> Vec<Step> {
+        let first = 0..self.temper.filled;
+        let fill = |index: usize| {
+            self.advance(rng);
+            let (source, origin) = (self.sources[index], self.own_origin(index));
+            Step::Call(self.report_of(rng, source, origin))
+        };
+        first.map(fill).collect()
+    }
+
     fn step(&mut self, rng: &mut Rng) -> Step {
         match rng.below(100) {
             0..=17 => Step::Choose(self.some_reading(rng)),
@@ -182,6 +210,10 @@ impl World {
         if kind < sweeps + self.temper.farewells {
             return Call::Farewell(source, origin);
         }
+        self.report_of(rng, source, origin)
+    }
+
+    fn report_of(&mut self, rng: &mut Rng, source: u32, origin: Origin) -> Call {
         let report = self.report(rng);
         let told = Record {
             source,
@@ -189,6 +221,10 @@ impl World {
             report,
         };
         Call::Report(told, self.clock)
+    }
+
+    fn own_origin(&self, index: usize) -> Origin {
+        self.origins[index % self.origins.len()]
     }
 
     /// A source with its own origin, or at times with another.
@@ -200,14 +236,14 @@ impl World {
         };
         let origin = match rng.chance(self.temper.twins) {
             true => self.twin_origin(rng, index),
-            false => self.origins[index % self.origins.len()],
+            false => self.own_origin(index),
         };
         (source, origin)
     }
 
     /// A source whose own origin this is, or at times another or a new one.
     pub(crate) fn source_at(&self, rng: &mut Rng, origin: &Origin) -> u32 {
-        let own = |index: &usize| self.origins[index % self.origins.len()] == *origin;
+        let own = |index: &usize| self.own_origin(*index) == *origin;
         let own: Vec<usize> = (0..self.sources.len()).filter(own).collect();
         match rng.below(20) {
             0 => rng.word(),
@@ -229,7 +265,7 @@ impl World {
     fn twin_origin(&self, rng: &mut Rng, index: usize) -> Origin {
         match rng.chance(50) {
             true => rng.pick(&self.origins),
-            false => neighbour(rng, &self.origins[index % self.origins.len()]),
+            false => neighbour(rng, &self.own_origin(index)),
         }
     }
 

@@ -9,10 +9,8 @@ use crate::arrivals::Arrival;
 use crate::decoder::decode;
 use crate::items::{Item, PlacedItem, Refusal};
 use crate::members::{Call, Choice, Opening, Reading, Record, ReportFields};
+use crate::places::{self, count_held_with, lowest_free_with, Held, Joins, PLACES};
 use crate::register::Register;
-
-/// Places in a table.
-const PLACES: usize = 64;
 
 #[derive(Clone, Copy, Debug, PartialEq, Eq)]
 pub enum Fault {
@@ -44,18 +42,19 @@ pub enum Fault {
     PlaceZero,
     /// The numbers of the list behind those of the calls become 0.
     RestCleared,
-    /// A new member takes the highest free place.
-    HighestPlace,
     /// The decoder is told that reduced size was not agreed, whatever was.
     FlagNotPassedOn,
     /// The decoder is told that reduced size was agreed, whatever was.
     FlagTakenAsSet,
     /// The decoder is told what was said with the first datagram.
     FlagKept,
+    /// The rule of places errs.
+    Places(places::Fault),
 }
 
 impl Fault {
-    pub const ALL: [Fault; 18] = [
+    /// All but those of the places.
+    pub const ALL: [Fault; 17] = [
         Fault::SettingsCounted,
         Fault::SettingsFiled,
         Fault::FarewellsFirst,
@@ -70,7 +69,6 @@ impl Fault {
         Fault::TenFirst,
         Fault::PlaceZero,
         Fault::RestCleared,
-        Fault::HighestPlace,
         Fault::FlagNotPassedOn,
         Fault::FlagTakenAsSet,
         Fault::FlagKept,
@@ -109,6 +107,10 @@ impl Answer {
 pub struct Intake {
     register: Register,
     places: [Option<u32>; PLACES],
+    /// The places that have had a member.
+    used: Held,
+    /// New members since the last datagram came.
+    pub joins: Joins,
     fault: Option<Fault>,
     /// The flag of the first datagram, for the fault that keeps it.
     first_flag: Option<bool>,
@@ -121,6 +123,8 @@ impl Intake {
         Ok(Intake {
             register,
             places: [None; PLACES],
+            used: [false; PLACES],
+            joins: Joins::default(),
             fault,
             first_flag: None,
         })
@@ -128,6 +132,13 @@ impl Intake {
 
     fn planted(&self, fault: Fault) -> bool {
         self.fault == Some(fault)
+    }
+
+    fn places_fault(&self) -> Option<places::Fault> {
+        match self.fault {
+            Some(Fault::Places(fault)) => Some(fault),
+            _ => None,
+        }
     }
 
     pub fn choose(&self, reading: &Reading) -> Choice {
@@ -140,32 +151,42 @@ impl Intake {
         self.places.map(|source| source.and_then(row).copied())
     }
 
+    pub fn count_members(&self) -> usize {
+        count_held_with(&self.held(), self.places_fault())
+    }
+
+    fn held(&self) -> Held {
+        self.places.map(|source| source.is_some())
+    }
+
     /// A single call: the refusal's number, or 0 where there is none.
     pub fn call(&mut self, call: &Call) -> u64 {
         let number = self.register.call(call);
-        match *call {
-            _ if number != 0 => {}
-            Call::Report(told, _) => self.take_place(told.source),
-            Call::Farewell(source, _) => self.keep_places(|held| held != source),
-            Call::Sweep(_) => {
+        match (*call, number) {
+            // 18 is the last check, and it is for the places to say.
+            (Call::Report(told, _), 0 | 18) => return self.take_place(told.source),
+            (Call::Farewell(source, _), 0) => self.keep_places(|held| held != source),
+            (Call::Sweep(_), 0) => {
                 let rows: Vec<u32> = self.register.rows().iter().map(|row| row.source).collect();
                 self.keep_places(|held| rows.contains(&held));
             }
+            _ => {}
         }
         number
     }
 
-    /// A new member takes the lowest free place.
-    fn take_place(&mut self, source: u32) {
+    /// A new member takes the lowest free place, or gets 18 where there is none.
+    fn take_place(&mut self, source: u32) -> u64 {
         if self.places.contains(&Some(source)) {
-            return;
+            return 0;
         }
-        let mut free = self.places.iter_mut().filter(|place| place.is_none());
-        let place = match self.fault {
-            Some(Fault::HighestPlace) => free.next_back(),
-            _ => free.next(),
+        let held = self.held();
+        let Some(place) = lowest_free_with(&held, self.places_fault()) else {
+            return 18;
         };
-        *place.expect("there are at most as many rows as places") = Some(source);
+        self.joins.count(&held, &mut self.used, place);
+        self.places[place] = Some(source);
+        0
     }
 
     fn keep_places(&mut self, keeps: impl Fn(u32) -> bool) {
@@ -176,6 +197,7 @@ impl Intake {
 
     /// Takes a whole datagram, with this list for the calls' numbers.
     pub fn take(&mut self, arrival: &Arrival, list: &mut [u64]) -> Answer {
+        self.joins = Joins::default();
         match decode(&arrival.datagram, self.flag(arrival.reduced_size)) {
             Ok(items) => self.take_items(arrival, &items, list),
             Err(refusal) => self.refuse(arrival, refusal, list.len()),

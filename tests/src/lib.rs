@@ -18,6 +18,7 @@ pub mod histories;
 pub mod intake;
 pub mod items;
 pub mod members;
+pub mod places;
 pub mod register;
 pub mod scenes;
 pub mod sides;

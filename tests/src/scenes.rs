@@ -5,9 +5,10 @@ use crate::cases::parse_bytes;
 use crate::compare::{same, Verdict};
 use crate::encoder::Message;
 use crate::members::{Call, Choice, Opening, Origin, Reading, Record, ReportFields, Target};
+use crate::places::PLACES;
 use crate::sides::Side;
 use crate::target::AtReading;
-use prunepocket_sys::{Refusal, ReportMessage, SettingsMessage, PLACES};
+use prunepocket_sys::{Refusal, ReportMessage, SettingsMessage};
 
 const OPENING: Opening = Opening {
     group: 42,

@@ -158,7 +158,7 @@ impl Side for Intake {
     }
 
     fn count_members(&self) -> u64 {
-        self.members().iter().flatten().count() as u64
+        Intake::count_members(self) as u64
     }
 
     fn member_at(&self, place: usize) -> Option<Record> {

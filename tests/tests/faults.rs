@@ -1,15 +1,15 @@
 //! Plants each fault in the decoder, in the encoder, in the reader and writer of
-//! site files' lines, in the register and in the intake, and asserts that the
-//! comparison finds it.
+//! site files' lines, in the register, in the rule of places and in the intake, and
+//! asserts that the comparison finds it.
 
 use prunepocket_tests::compare::{Comparison, Verdict};
 use prunepocket_tests::compare_intake::{self, IntakeComparison};
 use prunepocket_tests::compare_site_lines::LineComparison;
-use prunepocket_tests::compare_table::{smallest, TableComparison};
+use prunepocket_tests::compare_table::{self, TableComparison};
 use prunepocket_tests::compare_writers::WriterComparison;
 use prunepocket_tests::encoder::Message;
 use prunepocket_tests::generator::{self, Rng};
-use prunepocket_tests::{arrivals, decoder, encoder, histories, intake, register};
+use prunepocket_tests::{arrivals, decoder, encoder, histories, intake, places, register};
 use prunepocket_tests::{site_lines, sync_group};
 use std::borrow::Borrow;
 use std::fmt::Debug;
@@ -40,8 +40,10 @@ fn main() {
     }
     missed |= !lines_find_all(seed);
     for fault in register::Fault::all() {
-        missed |= !print_found(fault, "history", in_histories(seed, fault));
+        let planted = compare_table::Fault::Register(fault);
+        missed |= !print_found(fault, "history", in_histories(seed, planted));
     }
+    missed |= !places_find_all(seed);
     for fault in intake::Fault::ALL {
         missed |= !print_found(fault, "course", in_courses(seed, fault));
     }
@@ -67,6 +69,18 @@ fn lines_find_all(seed: u64) -> bool {
         found &= print_found(fault, "edge", in_lines(seed, fault, writings.iter(), check));
         let more = generated(seed, site_lines::writing);
         found &= print_found(fault, "writing", in_lines(seed, fault, more, check));
+    }
+    found
+}
+
+/// Each fault of the rule is found in histories, and again in courses.
+fn places_find_all(seed: u64) -> bool {
+    let mut found = true;
+    for fault in places::Fault::ALL {
+        let planted = compare_table::Fault::Places(fault);
+        found &= print_found(fault, "history", in_histories(seed, planted));
+        let planted = intake::Fault::Places(fault);
+        found &= print_found(fault, "course", in_courses(seed, planted));
     }
     found
 }
@@ -145,14 +159,14 @@ fn in_lines<I: Borrow<T>, T>(
 }
 
 /// The difference is that of the smallest history with the fault in it.
-fn in_histories(seed: u64, fault: register::Fault) -> Found {
+fn in_histories(seed: u64, fault: compare_table::Fault) -> Found {
     let mut comparison = TableComparison::new(seed, Some(fault));
     let (run, history, _) = hunt(
         generated(seed, histories::history),
         |history| comparison.check(history),
         |history| TableComparison::new(seed, None).check(history),
     )?;
-    let history = smallest(seed, Some(fault), &history);
+    let history = compare_table::smallest(seed, Some(fault), &history);
     let difference = TableComparison::new(seed, Some(fault)).check(&history);
     difference.err().map(|difference| (run, difference))
 }

@@ -91,7 +91,7 @@ fn of_datagrams(tally: &Tally) -> Vec<Line> {
 }
 
 fn others(tally: &Tally) -> Vec<Line> {
-    lines([
+    let mut others = lines([
         ("reports of step 0", tally.step_zero),
         ("step 0 accepted", tally.step_zero_accepted),
         ("step 0 refused 17", tally.step_zero_refused),
@@ -106,7 +106,9 @@ fn others(tally: &Tally) -> Vec<Line> {
         ("members", tally.members),
         ("targets", tally.targets),
         ("choices refused 20", tally.none_fresh),
-    ])
+    ]);
+    others.extend(tally.joins.lines());
+    others
 }
 
 /// The answers that each kind of call can get.

@@ -72,6 +72,7 @@ fn others(tally: &Tally) -> Vec<Line> {
         ("targets slower than step 0", targets.beside_wired),
         ("targets a unit beside step 0", targets.unit_apart),
     ]);
+    others.extend(tally.joins.lines());
     others.extend(of_step_zero(&tally.step_zero));
     others
 }

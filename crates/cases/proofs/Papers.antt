@@ -1,5 +1,6 @@
 -- The papers' cases hold, by computing the definitions.
 use mathlib.Core.Path.{refl}
+use lib.Count.{trailingZeros}
 use Rattle.times.specs.Times.{differenceMod, step, unwrapped, expanded, delay}
 use Rattle.origin.specs.Origins.{sameBytes, sameOrigin}
 use Rattle.places.specs.Places.{isHeld, heldIn, lowestFree, withPlace}
@@ -16,9 +17,9 @@ use Rattle.writer.specs.Messages.{reportIsUnwritable}
 use Rattle.cases.specs.Cases.{papers, AllHold}
 
 pub papers-hold : AllHold papers
-unfolding AllHold papers differenceMod step unwrapped expanded delay sameBytes sameOrigin isHeld heldIn lowestFree withPlace
-    reportChecks lateness latest emptyTable rowsAt placeOf filterWord opened numberOf filed answered latestTarget
-    choiceAmong choiceOf tableFrom reportIsUnwritable
+unfolding AllHold papers differenceMod step unwrapped expanded delay sameBytes sameOrigin trailingZeros isHeld heldIn
+    lowestFree withPlace reportChecks lateness latest emptyTable rowsAt placeOf filterWord opened numberOf filed
+    answered latestTarget choiceAmong choiceOf tableFrom reportIsUnwritable
 papers-hold = (
   (refl, refl),
   (

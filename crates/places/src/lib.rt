@@ -1,17 +1,18 @@
 // The places of the member table: one word marks the places held, its lowest bit the first place.
 ghost use mathlib.Core.Path.{_≡_};
 ghost use Rattle.places.specs.Places.{heldIn, lowestFree, holdsPlace, withPlace, withoutPlace};
+ghost use Rattle.places.specs.Free.{IsLowestFree};
 
-// How many of the 64 places are held.
+// How many of the 64 places are held: the word's ones.
 pub fn count_held(word: u64) -> u32
     ensures { λ r. ⌜ r ≡ heldIn 64 word ⌝ }
 {
     u64::count_ones(word)
 }
 
-// The lowest free place, or 64 where none is free.
+// The lowest free place, or 64 where none is free: the trailing zeros of the word's complement.
 pub fn lowest_free(word: u64) -> u32
-    ensures { λ r. ⌜ r ≡ lowestFree 64 word ⌝ }
+    ensures { λ r. ⌜ (r ≡ lowestFree 64 word) × IsLowestFree 64 word r ⌝ }
 {
     u64::trailing_zeros(!word)
 }
@@ -23,7 +24,7 @@ pub fn is_held(word: u64, place: usize) -> bool
     if 64 <= place {
         return false;
     }
-    (word >> place) % 2 != 0
+    (word >> place) % 2 == 1
 }
 
 // The word that marks a place too. It is the same word where the place is held, or there is no such place.

@@ -3,3 +3,4 @@ pub mod Calls
 pub mod Choose
 pub mod Intake
 pub mod History
+pub mod PlaceTaken

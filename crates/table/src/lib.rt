@@ -29,6 +29,7 @@ use search::member_of;
 use search::place_of;
 ghost use mathlib.Core.Path.{_≡_};
 ghost use mathlib.Core.Bool.{false};
+ghost use Rattle.places.specs.Places.{lowestFree};
 ghost use Rattle.register.specs.Register.{Call};
 ghost use Rattle.table.specs.Members.{placeIn, memberCount, placeAt};
 ghost use Rattle.table.specs.Calls.{opened, isWithoutRoom, filed, answered};
@@ -127,8 +128,9 @@ impl Table {
     }
 
     // An accepted report, filed at its number's place, or at the lowest free one.
-    fn file(self, place: usize, x: Record) -> Table
-        requires { ⌜ (place ≡ placeIn self (x .source)) × (isWithoutRoom self (x .source) ≡ false) ⌝ }
+    fn file(self, place: usize, free: usize, x: Record) -> Table
+        requires { ⌜ (place ≡ placeIn self (x .source)) × (free ≡ lowestFree 64 (self .held))
+            × (isWithoutRoom self (x .source) ≡ false) ⌝ }
         ensures { λ r. ⌜ r ≡ filed self x ⌝ }
     {
         let held = self.held;
@@ -137,7 +139,6 @@ impl Table {
             next.members[place] = x;
             return next;
         }
-        let free = lowest_free(held) as usize;
         next.held = with_place(held, free);
         next.members[free] = x;
         next
@@ -152,7 +153,8 @@ impl Table {
         let origin = x.origin;
         let place = place_of(held, members, x.source);
         let elsewhere = is_elsewhere(members, place, origin);
-        let full = is_without_room(place, held);
+        let free = lowest_free(held) as usize;
+        let full = is_without_room(place, free);
         let number = report_number(self.group, self.media, self.rate, x, at, elsewhere, full);
         if number != 0 {
             return Answered {
@@ -162,7 +164,7 @@ impl Table {
         }
         Answered {
             number: 0,
-            table: self.file(place, x),
+            table: self.file(place, free, x),
         }
     }
 

@@ -1,17 +1,16 @@
 // Where a number's member stands, what is at a place, and whether there is room.
 use origin::Origin;
 use origin::same_origin;
-use places::lowest_free;
 use register::Record;
 ghost use mathlib.Core.Path.{_≡_};
 ghost use mathlib.Core.Bool.{not, _&&_};
-ghost use Prim.Native.Nat.{_≤_, _<_};
-ghost use lib.Dec.{eqb};
+ghost use Prim.Native.Nat.{_<_};
+ghost use lib.Dec.{ltb, eqb};
 ghost use lib.ListN.{getD};
 ghost use Rattle.places.specs.Places.{isFree};
 ghost use Rattle.choosing.specs.Marked.{nowhere};
 ghost use Rattle.table.specs.Members.{placeOf};
-ghost use Rattle.table.specs.Calls.{elsewhereAt, noRoomAt};
+ghost use Rattle.table.specs.Calls.{elsewhereAt};
 
 // Whether the word's first place is held, by a member of this number.
 fn is_held_by(word: u64, number: u32, source: u32) -> bool
@@ -58,12 +57,12 @@ pub(crate) fn is_elsewhere(members: [Record; 64], place: usize, origin: Origin) 
     !same_origin(there.origin, origin)
 }
 
-// Whether a source without a place finds all places held.
-pub(crate) fn is_without_room(place: usize, held: u64) -> bool
-    ensures { λ r. ⌜ r ≡ noRoomAt place held ⌝ }
+// Whether a source without a place finds none free: the lowest free place is 64.
+pub(crate) fn is_without_room(place: usize, free: usize) -> bool
+    ensures { λ r. ⌜ r ≡ (not (ltb place 64) && eqb free 64) ⌝ }
 {
     if place < 64 {
         return false;
     }
-    lowest_free(held) == 64
+    free == 64
 }

@@ -7,11 +7,13 @@ use mathlib.Core.Path.{_≡_, refl, sym, ap, _∙_}
 use lib.Dec.{eqb}
 use lib.ListN.{length, getD, drop, drop-of-length-le}
 use lib.Seq.{drop-cons}
+use native.Mathlib.Nat.{pow-zero, pow-suc}
 use native.Mathlib.Numerals.{add-one}
 use native.Mathlib.Omega.{arith}
 use borrow.Author.Tests.{eqb-true, eqb-false}
 use Rattle.places.specs.Places.{isFree, heldIn, bit}
 use Rattle.places.proofs.Laws.Bits.{lowest-bit, bit-half, bit-none, power-next}
+use Rattle.places.proofs.Laws.Free.{held-step}
 use Rattle.register.specs.declared.Record.{Record}
 use Rattle.register.specs.Register.{Rows, filter, any}
 use Rattle.choosing.specs.Marked.{rowsAt, filterWord, nowhere}
@@ -57,6 +59,18 @@ rows-filterWord test word [] = refl
 rows-filterWord test word (m ∷ ms) =
     filter-step test word (filterWord test (word / 2) ms) m ms (isFree word) refl (rows-filterWord test (word / 2) ms)
 
+fits-step : (yes : Bool) (k rest : ℕ) → rest < 2 ^ k → bit yes + 2 * rest < 2 ^ suc k
+fits-step true k rest h = omega (arith, pow-suc 2 k)
+fits-step false k rest h = omega (arith, pow-suc 2 k)
+
+-- it has as many bits as there are places
+pub filterWord-fits : (test : Record → Bool) (word : ℕ) (ms : Rows) → filterWord test word ms < 2 ^ length ms
+unfolding filterWord
+filterWord-fits test word [] = omega (arith, pow-zero 2)
+filterWord-fits test word (m ∷ ms) =
+    fits-step (not (isFree word) && test m) (length ms) (filterWord test (word / 2) ms)
+    (filterWord-fits test (word / 2) ms)
+
 not-or : (s t : Bool) → (not s && not t) ≡ not (s || t)
 not-or true t = refl
 not-or false t = refl
@@ -100,7 +114,8 @@ pub ones-of-rows : (word : ℕ) (ms : Rows) → heldIn (length ms) word ≡ leng
 unfolding heldIn rowsAt
 ones-of-rows word [] = refl
 ones-of-rows word (m ∷ ms) =
-    ones-step word (heldIn (length ms) (word / 2)) m ms (isFree word) refl (ones-of-rows (word / 2) ms)
+    held-step (length ms) word
+    ∙ ones-step word (heldIn (length ms) (word / 2)) m ms (isFree word) refl (ones-of-rows (word / 2) ms)
 
 -- ---- one place more, in a pass over the places
 

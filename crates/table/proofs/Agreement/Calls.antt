@@ -1,6 +1,6 @@
 -- One call on a table and on the register whose rows agree with its members: the same answer, and they agree
 -- afterwards.
-use Prim.Native.Nat.{ℕ, _≤_, _<_}
+use Prim.Native.Nat.{ℕ, _^_, _≤_, _<_}
 use mathlib.Core.Bool.{Bool, true, false, not, _&&_, _||_}
 use mathlib.Core.List.{_∷_, List·Permᴰ, List·Permᴰ·cons, List·Permᴰ·trans, Permᴰ·symm}
 use mathlib.Core.Path.{_≡_, refl, sym, ap, _∙_}
@@ -10,8 +10,9 @@ use native.Mathlib.Omega.{arith}
 use borrow.Author.Tests.{eqb-true, eq-eqb, ltb-true, ltb-false}
 use Rattle.origin.specs.declared.Origin.{Origin}
 use Rattle.origin.specs.Origins.{sameOrigin}
-use Rattle.places.specs.Places.{isHeld, heldIn, lowestFree, withoutPlace}
-use Rattle.places.proofs.Laws.Free.{lowest-free-is-free, full-held}
+use Rattle.places.specs.Places.{isHeld, heldIn, lowestFree, withPlace, withoutPlace}
+use Rattle.places.proofs.Laws.Bits.{with-fits, without-fits}
+use Rattle.places.proofs.Laws.Free.{lowest-free-below, full-held}
 use Rattle.register.specs.declared.Record.{Record}
 use Rattle.register.specs.Register.{Opening, Rows, Call, filter, any, hasNumber, isHeldElsewhere, hasNoRoom, renewed}
 use Rattle.register.specs.Register.{farewellChecks, freshAt, answer, accepted, after}
@@ -21,16 +22,18 @@ use Rattle.register.proofs.Stands.{accepted-room}
 use Rattle.register.proofs.Unique.{unique-permuted, without-own, elsewhere-own}
 use Rattle.register.proofs.Permuted.{unique-after, renewed-form}
 use Rattle.choosing.specs.Marked.{nowhere, rowsAt}
-use Rattle.choosing.proofs.Laws.Marked.{rows-filterWord, ones-of-rows}
+use Rattle.choosing.proofs.Laws.Marked.{rows-filterWord, filterWord-fits, ones-of-rows}
 use Rattle.table.specs.declared.Table.{Table}
 use Rattle.table.specs.Members.{openingOf, membersOf, placeIn}
-use Rattle.table.specs.Calls.{isMember, isElsewhere, isWithoutRoom, numberOf, filed, acceptedBy, answered}
+use Rattle.table.specs.Calls.{isMember, isElsewhere, isWithoutRoom, numberOf, acceptedBy, answered}
+use Rattle.table.specs.Calls.{withHeld, withMember, filed}
 use Rattle.table.proofs.Laws.Cases.{free-place}
 use Rattle.table.proofs.Laws.Members.{place-found, rows-own, rows-renew, rows-with}
 
--- a table whose 64 places hold the rows, each number once
+-- a table whose 64 places, marked by a word of 64 bits, hold the rows, each number once
 pub record Holds (o : Opening) (t : Table) (rows : Rows) : Type 0 where
   pub opening : openingOf t ≡ o
+  pub fits : t .held < 2 ^ 64
   pub long : length (t .members) ≡ 64
   pub same : List·Permᴰ (membersOf t) rows
   pub unique : Unique rows
@@ -44,7 +47,7 @@ pub record Owned (t : Table) (source : ℕ) : Type 0 where
   pub within : placeIn t source < length (t .members)
   pub number : getD (t .members) (placeIn t source) nowhere .source ≡ source
 
-owned : (t : Table) (source : ℕ) → length (t .members) ≡ 64 → isMember t source ≡ true → Owned t source
+pub owned : (t : Table) (source : ℕ) → length (t .members) ≡ 64 → isMember t source ≡ true → Owned t source
 owned t source long e =
     let below : placeIn t source < 64 = ltb-true (placeIn t source) 64 e in
     let within : placeIn t source < length (t .members) = omega (arith, below, long) in
@@ -130,7 +133,7 @@ room-same :
 room-same o t rows h source =
     ap (λ (b : Bool). not b && eqb (lowestFree 64 (t .held)) 64) (member-any o t rows h source)
     ∙ ap (λ (b : Bool). not (any (hasNumber source) rows) && b)
-    (full-held 64 (t .held) ∙ ap (λ (k : ℕ). eqb k 64) (rows-count o t rows h))
+    (full-held 64 (t .held) (h .fits) ∙ ap (λ (k : ℕ). eqb k 64) (rows-count o t rows h))
 
 -- ---- every answer is the register's
 
@@ -174,7 +177,7 @@ filed-rows o t rows h x room = go (isMember t (x .source)) refl
         (Permᴰ·symm (renewed-form rows (h .unique) x))))
     go false e =
         let below : _ = free-place t (x .source) e room in
-        let free : _ = lowest-free-is-free 64 (t .held) below in
+        let free : _ = lowest-free-below 64 (t .held) (h .fits) below .0 in
         let kept : filter (λ row. not (hasNumber (x .source) row)) rows ≡ rows =
         any-filter (hasNumber (x .source)) rows (none-of-number o t rows h (x .source) e) in
         rw e
@@ -184,21 +187,30 @@ filed-rows o t rows h x room = go (isMember t (x .source)) refl
         (List·Permᴰ·cons refl (h .same))
         (Permᴰ·symm (rw kept at (renewed-form rows (h .unique) x)))))
 
-filed-length : (t : Table) (x : Record) → length (filed t x .members) ≡ length (t .members)
+-- what holds of the table with x at its number's place, and with x at the lowest free one, holds where x is filed
+filed-either :
+    (t : Table) (x : Record) (P : Table → Type 0) → P (withMember t (placeIn t (x .source)) x) →
+    P (withMember (withHeld t (withPlace (t .held) (lowestFree 64 (t .held)))) (lowestFree 64 (t .held)) x) →
+    P (filed t x)
 unfolding filed
-filed-length t x = go (isMember t (x .source)) refl
+filed-either t x P again anew = go (isMember t (x .source)) refl
   where
-    go : (b : Bool) → isMember t (x .source) ≡ b → length (filed t x .members) ≡ length (t .members)
-    go true e = rw e (length-set (t .members) (placeIn t (x .source)) x)
-    go false e = rw e (length-set (t .members) (lowestFree 64 (t .held)) x)
+    go : (b : Bool) → isMember t (x .source) ≡ b → P (filed t x)
+    go true e = rw e again
+    go false e = rw e anew
+
+filed-length : (t : Table) (x : Record) → length (filed t x .members) ≡ length (t .members)
+filed-length t x =
+    filed-either t x (λ (u : Table). length (u .members) ≡ length (t .members))
+    (length-set (t .members) (placeIn t (x .source)) x)
+    (length-set (t .members) (lowestFree 64 (t .held)) x)
+
+filed-fits : (t : Table) (x : Record) → t .held < 2 ^ 64 → filed t x .held < 2 ^ 64
+filed-fits t x fits =
+    filed-either t x (λ (u : Table). u .held < 2 ^ 64) fits (with-fits (t .held) (lowestFree 64 (t .held)) fits)
 
 filed-opening : (t : Table) (x : Record) → openingOf (filed t x) ≡ openingOf t
-unfolding filed
-filed-opening t x = go (isMember t (x .source)) refl
-  where
-    go : (b : Bool) → isMember t (x .source) ≡ b → openingOf (filed t x) ≡ openingOf t
-    go true e = rw e refl
-    go false e = rw e refl
+filed-opening t x = filed-either t x (λ (u : Table). openingOf u ≡ openingOf t) refl refl
 
 -- answered 0, a farewell's number is a member's
 farewell-held : (held elsewhere : Bool) → farewellChecks held elsewhere ≡ 0 → held ≡ true
@@ -216,6 +228,7 @@ accepted-holds o t rows h (Call.report x at) e unique =
     accepted-room (openingOf t) x at (isElsewhere t (x .source) (x .origin)) (isWithoutRoom t (x .source)) e in
     record {
       opening = filed-opening t x ∙ h .opening;
+      fits = filed-fits t x (h .fits);
       long = filed-length t x ∙ h .long;
       same = filed-rows o t rows h x room;
       unique = unique;
@@ -223,7 +236,13 @@ accepted-holds o t rows h (Call.report x at) e unique =
 accepted-holds o t rows h (Call.farewell source origin) e unique =
     let member : isMember t source ≡ true = farewell-held (isMember t source) (isElsewhere t source origin) e in
     let w : Owned t source = owned t source (h .long) member in
-    record { opening = h .opening; long = h .long; same = without-number o t rows h source w; unique = unique }
+    record {
+      opening = h .opening;
+      fits = without-fits (t .held) (placeIn t source) (h .fits);
+      long = h .long;
+      same = without-number o t rows h source w;
+      unique = unique;
+    }
 accepted-holds o t rows h (Call.sweep at) e unique =
     let kept : membersOf (acceptedBy t (Call.sweep at)) ≡ filter (freshAt (openingOf t) at) (membersOf t) =
     rows-filterWord (freshAt (openingOf t) at) (t .held) (t .members) in
@@ -231,6 +250,7 @@ accepted-holds o t rows h (Call.sweep at) e unique =
     ap (λ (p : Opening). filter (freshAt p at) (membersOf t)) (h .opening) in
     record {
       opening = h .opening;
+      fits = rw (h .long) at (filterWord-fits (freshAt (openingOf t) at) (t .held) (t .members));
       long = h .long;
       same = rw (kept, opens) (filter-permuted (freshAt o at) (h .same));
       unique = unique;

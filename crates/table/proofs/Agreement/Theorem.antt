@@ -1,11 +1,11 @@
 -- Demand 3, one theorem: by induction over the calls, table and register answer alike and stay in agreement; choosing
 -- on the table is then the register's choice, whatever the order of rows, by the theorem of `choosing`.
 use Prim.Native.Nat.{ℕ, _<_}
-use mathlib.Core.Bool.{Bool, true, false, _&&_, and-eq-true-iff}
+use mathlib.Core.Bool.{Bool, true, false, and-eq-true-iff}
 use mathlib.Core.List.{List, [], _∷_, _++_, List·Memᴰ, Permᴰ·refl, Permᴰ·symm}
 use mathlib.Core.Logic.{_↔_}
 use mathlib.Core.Path.{_≡_, refl, sym, ap, _∙_}
-use lib.Dec.{ltb}
+use lib.Dec.{ltb, lit<}
 use lib.ListN.{length, getD, length-replicate}
 use native.Mathlib.Omega.{arith}
 use borrow.Author.Tests.{ltb-true, lt-ltb}
@@ -43,6 +43,7 @@ unfolding emptyTable filter
 empty-holds o =
     record {
       opening = refl;
+      fits = lit< tt;
       long = length-replicate 64 vacant;
       same = rw (rows-none (emptyTable o .members)) (Permᴰ·refl []);
       unique = λ source. omega arith;
@@ -131,7 +132,7 @@ row-place o t rows h row member =
     (at .place, below, rw (lt-ltb (at .place) 64 below, at .held, at .row-is) refl)
 
 -- what a place shows that is held
-shown-there :
+pub shown-there :
     (t : Table) (place : ℕ) → placeAt t place .held ≡ 1 →
     (place < 64) × (isHeld place (t .held) ≡ true) × (placeAt t place .member ≡ getD (t .members) place nowhere)
 unfolding placeAt
@@ -193,7 +194,7 @@ shown-row o taken h x = (row-place o t rows holds x, shown)
 
 -- ---- demand 3
 
-reached-holds :
+pub reached-holds :
     (o : Opening) (calls : List Call) (t : Table) (rows : Rows) → Reached o calls t rows → Holds o t rows
 reached-holds o calls t rows here =
     rw (here .table-is, here .rows-are) (from-opened o (here .taken) calls .holds)

@@ -159,6 +159,14 @@ free-place t source new room =
     let found : eqb (lowestFree 64 (t .held)) 64 ≡ false = rw new at room in
     omega (arith, eqb-false (lowestFree 64 (t .held)) 64 found, lowest-free-within 64 (t .held))
 
+-- the same of the place that the search and the word give
+pub free-below :
+    (t : Table) (source place free : ℕ) → place ≡ placeIn t source → free ≡ lowestFree 64 (t .held) → 64 ≤ place →
+    isWithoutRoom t source ≡ false → free < 64
+free-below t source place free e f h room =
+    let new : isMember t source ≡ false = le-ltb (placeIn t source) 64 (omega (arith, e, h)) in
+    omega (arith, free-place t source new room, f)
+
 module _ (t : Table) (x : Record) (place : ℕ) (e : place ≡ placeIn t (x .source)) (members : Rows) where
   pub filed-again :
       place < 64 → members ≡ set (t .members) place x →

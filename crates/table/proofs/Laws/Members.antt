@@ -9,7 +9,8 @@ use lib.ListN.{length, getD, set}
 use native.Mathlib.Omega.{arith}
 use borrow.Author.Tests.{eqb-true, ne-eqb, not-true, not-false}
 use Rattle.places.specs.Places.{isFree, isHeld, withPlace, withoutPlace}
-use Rattle.places.proofs.Laws.Bits.{added-lowest, added-half, with-free, without-held, held-apart}
+use Rattle.places.proofs.Laws.Bits.{held-first, held-next, held-apart, added-lowest, added-half}
+use Rattle.places.proofs.Laws.Bits.{with-free, without-held}
 use Rattle.register.specs.declared.Record.{Record}
 use Rattle.register.specs.Register.{Rows, any, hasNumber}
 use Rattle.register.specs.Promise.{Unique}
@@ -63,11 +64,12 @@ insert-here word m ms x e =
 rows-insert :
     (word place : ℕ) (ms : Rows) (x : Record) → isHeld place word ≡ false → place < length ms →
     List·Permᴰ (rowsAt (word + 2 ^ place) (set ms place x)) (x ∷ rowsAt word ms)
-unfolding isHeld
 rows-insert word place [] x free h = absurd (omega arith)
-rows-insert word zero (m ∷ ms) x free h = insert-here word m ms x (not-false (isFree word) free)
+rows-insert word zero (m ∷ ms) x free h =
+    insert-here word m ms x (not-false (isFree word) (sym (held-first word) ∙ free))
 rows-insert word (suc place) (m ∷ ms) x free h =
-    insert-step word place m ms x (isFree word) refl (rows-insert (word / 2) place ms x free (omega arith))
+    insert-step word place m ms x (isFree word) refl
+    (rows-insert (word / 2) place ms x (sym (held-next place word) ∙ free) (omega arith))
 
 -- a free place that is marked and stored at adds one row
 pub rows-with :
@@ -116,19 +118,20 @@ found-on :
     (source word place : ℕ) (m : Record) (ms : Rows) →
     any (hasNumber source) (rowsAt word (m ∷ ms)) ≡ any (hasNumber source) (rowsAt (word / 2) ms) →
     Found-at source (word / 2) ms place → Found-at source word (m ∷ ms) (1 + place)
-unfolding isHeld
 found-on source word place m ms same rest =
     let next : 1 + place ≡ suc place = omega arith in
-    rw next (omega (arith, rest .0), (λ h. rest .1 (omega arith)), (λ h. same ∙ rest .2 (omega arith)))
+    rw (next, held-next place word)
+    (omega (arith, rest .0), (λ h. rest .1 (omega arith)), (λ h. same ∙ rest .2 (omega arith)))
 
 place-step :
     (source word : ℕ) (m : Record) (ms : Rows) → (s t : Bool) → isFree word ≡ s → hasNumber source m ≡ t →
     Found-at source (word / 2) ms (placeOf source (word / 2) ms) →
     Found-at source word (m ∷ ms) (cond (not s && t) 0 (1 + placeOf source (word / 2) ms))
-unfolding isHeld any
+unfolding any
 place-step source word m ms true t e f rest =
     found-on source word (placeOf source (word / 2) ms) m ms (ap (any (hasNumber source)) (rows-free word m ms e)) rest
-place-step source word m ms false true e f rest = (omega arith, (λ h. (rw e refl, f)), (λ h. absurd (omega arith)))
+place-step source word m ms false true e f rest =
+    (omega arith, (λ h. (held-first word ∙ ap not e, f)), (λ h. absurd (omega arith)))
 place-step source word m ms false false e f rest =
     found-on source word (placeOf source (word / 2) ms) m ms
     (ap (any (hasNumber source)) (rows-held word m ms e)
@@ -153,13 +156,12 @@ member-step word m row ms false e rest = rw (rows-held word m ms e) (List·Mem�
 pub member-at-place :
     (word place : ℕ) (ms : Rows) → isHeld place word ≡ true → place < length ms →
     List·Memᴰ (getD ms place nowhere) (rowsAt word ms)
-unfolding isHeld
 member-at-place word place [] held h = absurd (omega arith)
 member-at-place word zero (m ∷ ms) held h =
-    rw (rows-held word m ms (not-true (isFree word) held)) (List·Memᴰ·head refl)
+    rw (rows-held word m ms (not-true (isFree word) (sym (held-first word) ∙ held))) (List·Memᴰ·head refl)
 member-at-place word (suc place) (m ∷ ms) held h =
     member-step word m (getD ms place nowhere) ms (isFree word) refl
-    (member-at-place (word / 2) place ms held (omega arith))
+    (member-at-place (word / 2) place ms (sym (held-next place word) ∙ held) (omega arith))
 
 -- a place where a row is held
 pub record At (row : Record) (word : ℕ) (ms : Rows) : Type 0 where
@@ -169,17 +171,20 @@ pub record At (row : Record) (word : ℕ) (ms : Rows) : Type 0 where
   pub row-is : getD ms place nowhere ≡ row
 
 at-next : (row m : Record) (word : ℕ) (ms : Rows) → At row (word / 2) ms → At row word (m ∷ ms)
-unfolding isHeld
 at-next row m word ms a =
-    record { place = suc (a .place); within = omega (arith, a .within); held = a .held; row-is = a .row-is }
+    record {
+      place = suc (a .place);
+      within = omega (arith, a .within);
+      held = held-next (a .place) word ∙ a .held;
+      row-is = a .row-is;
+    }
 
 at-first :
     (row m : Record) (word : ℕ) (ms : Rows) → isFree word ≡ false →
     (List·Memᴰ row (rowsAt (word / 2) ms) → At row (word / 2) ms) →
     List·Memᴰ row (m ∷ rowsAt (word / 2) ms) → At row word (m ∷ ms)
-unfolding isHeld
 at-first row m word ms e rest (List·Memᴰ·head q) =
-    record { place = 0; within = omega arith; held = rw e refl; row-is = sym q }
+    record { place = 0; within = omega arith; held = held-first word ∙ ap not e; row-is = sym q }
 at-first row m word ms e rest (List·Memᴰ·tail member) = at-next row m word ms (rest member)
 
 at-step :
@@ -206,21 +211,21 @@ unique-behind word m ms u = go (isFree word) refl
 
 -- the number of the first place, if that is held, is at no place behind
 first-once :
-    (word : ℕ) (m : Record) (ms : Rows) → Unique (rowsAt word (m ∷ ms)) → (place : ℕ) → not (isFree word) ≡ true →
-    isHeld place (word / 2) ≡ true → place < length ms → getD ms place nowhere .source ≡ m .source → ⊥
+    (word : ℕ) (m : Record) (ms : Rows) → Unique (rowsAt word (m ∷ ms)) → (place : ℕ) → isHeld 0 word ≡ true →
+    isHeld (suc place) word ≡ true → place < length ms → getD ms place nowhere .source ≡ m .source → ⊥
 first-once word m ms u place first held h same =
-    let rows : _ = rows-held word m ms (not-true (isFree word) first) in
+    let rows : _ = rows-held word m ms (not-true (isFree word) (sym (held-first word) ∙ first)) in
     alone m (getD ms place nowhere) (rowsAt (word / 2) ms) (rw rows at u)
-    (member-at-place (word / 2) place ms held h) same
+    (member-at-place (word / 2) place ms (sym (held-next place word) ∙ held) h) same
 
 pub place-once :
     (word : ℕ) (ms : Rows) → Unique (rowsAt word ms) → (p q : ℕ) → isHeld p word ≡ true → isHeld q word ≡ true →
     p < length ms → q < length ms → getD ms p nowhere .source ≡ getD ms q nowhere .source → p ≡ q
-unfolding isHeld
 place-once word [] u p q a b h k same = absurd (omega arith)
 place-once word (m ∷ ms) u zero zero a b h k same = refl
 place-once word (m ∷ ms) u zero (suc q) a b h k same = absurd (first-once word m ms u q a b (omega arith) (sym same))
 place-once word (m ∷ ms) u (suc p) zero a b h k same = absurd (first-once word m ms u p b a (omega arith) same)
 place-once word (m ∷ ms) u (suc p) (suc q) a b h k same =
     ap suc
-    (place-once (word / 2) ms (unique-behind word m ms u) p q a b (omega arith) (omega arith) same)
+    (place-once (word / 2) ms (unique-behind word m ms u) p q (sym (held-next p word) ∙ a) (sym (held-next q word) ∙ b)
+    (omega arith) (omega arith) same)

@@ -1,12 +1,8 @@
 -- At its number's place by `filed-again`, at the lowest free one by `filed-anew`. That is below 64: there was room.
-use mathlib.Core.Bool.{false}
-use mathlib.Core.Path.{_≡_, refl}
-use native.Mathlib.Omega.{arith}
+use Prim.Native.Nat.{_<_}
+use mathlib.Core.Path.{refl}
 use borrow.Author.Needs.{needs}
-use borrow.Author.Tests.{le-ltb}
-use Rattle.table.specs.Members.{placeIn}
-use Rattle.table.specs.Calls.{isMember}
-use Rattle.table.proofs.Laws.Cases.{free-place, filed-again, filed-anew}
+use Rattle.table.proofs.Laws.Cases.{free-below, filed-again, filed-anew}
 use Rattle.table.proofs.Table.file.Statement.{statement}
 use Rattle.table.proofs.Table.file.Tie as tie
 
@@ -21,35 +17,27 @@ returns c =
     let start = c .before in
     filed-again (start .args .self) (start .args .x) (start .args .place) (start .pre .0) _ (c .if1 .taken) refl
 
-lowest-free-requires : tie.Need-lowest-free-requires
-lowest-free-requires c κs = search needs
-
-cast-free : tie.Need-cast-free
-cast-free c = search needs
-
 with-place-requires : tie.Need-with-place-requires
 with-place-requires c κs = search needs
 
 mul-x-2 : tie.Need-mul-x-2
-mul-x-2 c = search needs
+mul-x-2 c =
+    let start = c .before .before in
+    let below : start .args .free < 64 =
+    free-below (start .args .self) _ _ _ (start .pre .0) (start .pre .1) (c .before .if1 .left) (start .pre .2) in
+    search needs
 
 element-set-from-x-2 : tie.Need-element-set-from-x-2
 element-set-from-x-2 c =
-    let free = c .before in
-    let start = free .before .before in
-    let t = start .args .self in
-    let source = start .args .x .source in
-    let new : isMember t source ≡ false =
-    le-ltb (placeIn t source) 64 (omega (arith, start .pre .0, free .before .if1 .left)) in
-    omega (arith, free-place t source new (start .pre .1), free .lowest-free .ensures)
+    let start = c .before .before in
+    free-below (start .args .self) _ _ _ (start .pre .0) (start .pre .1) (c .before .if1 .left) (start .pre .2)
 
 returns-2 : tie.Need-returns-2
 returns-2 c =
-    let free = c .before in
-    let start = free .before .before in
+    let start = c .before .before in
     filed-anew (start .args .self) (start .args .x) (start .args .place) (start .pre .0) _ _ _
-    (free .before .if1 .left)
-    (free .lowest-free .ensures)
+    (c .before .if1 .left)
+    (start .pre .1)
     (c .with-place .ensures)
     refl
 
@@ -60,8 +48,6 @@ file-spec =
     mul-x
     element-set-from-x
     returns
-    lowest-free-requires
-    cast-free
     with-place-requires
     mul-x-2
     element-set-from-x-2

@@ -13,6 +13,12 @@ place-of-requires c κs = search needs
 is-elsewhere-requires : tie.Need-is-elsewhere-requires
 is-elsewhere-requires c κs = search needs
 
+lowest-free-requires : tie.Need-lowest-free-requires
+lowest-free-requires c κs = search needs
+
+cast-free : tie.Need-cast-free
+cast-free c = search needs
+
 is-without-room-requires : tie.Need-is-without-room-requires
 is-without-room-requires c κs = search needs
 
@@ -22,37 +28,38 @@ report-number-requires c κs = search needs
 returns : tie.Need-returns
 returns c =
     let b = c .before in
-    let args = b .before .before .before .before .before .before .args in
+    let args = b .before .before .before .before .before .before .before .args in
     let e : _ =
     report-number-there (args .self) (args .x) (args .at) _ _ _ _
-    (b .before .before .before .place-of .ensures)
-    (b .before .before .is-elsewhere .ensures)
-    (b .before .is-without-room .ensures)
+    (b .before .before .before .before .place-of .ensures)
+    (b .before .before .before .is-elsewhere .ensures)
+    (rw (b .before .before .lowest-free .ensures .0) at (b .before .is-without-room .ensures))
     (b .report-number .ensures) in
     call-refused (args .self) _ _ e (c .if1 .taken)
 
 file-requires : tie.Need-file-requires
 file-requires c κs =
     let b = c .before in
-    let args = b .before .before .before .before .before .before .args in
-    let place-of = b .before .before .before .place-of in
+    let args = b .before .before .before .before .before .before .before .args in
+    let place-of = b .before .before .before .before .place-of in
+    let lowest-free = b .before .before .lowest-free in
     let e : _ =
     report-number-there (args .self) (args .x) (args .at) _ _ _ _
     (place-of .ensures)
-    (b .before .before .is-elsewhere .ensures)
-    (b .before .is-without-room .ensures)
+    (b .before .before .before .is-elsewhere .ensures)
+    (rw (lowest-free .ensures .0) at (b .before .is-without-room .ensures))
     (b .report-number .ensures) in
-    (place-of .ensures, report-room (args .self) (args .x) (args .at) (sym e ∙ c .if1 .left))
+    (place-of .ensures, lowest-free .ensures .0, report-room (args .self) (args .x) (args .at) (sym e ∙ c .if1 .left))
 
 returns-2 : tie.Need-returns-2
 returns-2 c =
     let b = c .before .before in
-    let args = b .before .before .before .before .before .before .args in
+    let args = b .before .before .before .before .before .before .before .args in
     let e : _ =
     report-number-there (args .self) (args .x) (args .at) _ _ _ _
-    (b .before .before .before .place-of .ensures)
-    (b .before .before .is-elsewhere .ensures)
-    (b .before .is-without-room .ensures)
+    (b .before .before .before .before .place-of .ensures)
+    (b .before .before .before .is-elsewhere .ensures)
+    (rw (b .before .before .lowest-free .ensures .0) at (b .before .is-without-room .ensures))
     (b .report-number .ensures) in
     call-accepted (args .self) _ (Call.report (args .x) (args .at)) (sym e ∙ c .before .if1 .left) (c .file .ensures)
 
@@ -62,6 +69,8 @@ report-spec =
     (tie.spec
     place-of-requires
     is-elsewhere-requires
+    lowest-free-requires
+    cast-free
     is-without-room-requires
     report-number-requires
     returns
