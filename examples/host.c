@@ -5,10 +5,10 @@
  * alone: reduced-size RTCP (RFC 5506).
  *
  * The host files what each datagram holds, then sends the target back to the datagram's sender.
- * Everything is printed: what was sent, the answers, the members, the target, and the settings that
- * the loudspeaker read. One datagram is under way at a time and the sender's clock stands still, so
- * the text is the same in every run. It is also the same over IPv4 and over IPv6, and is printed
- * once; stderr says whether IPv6 was there.
+ * Everything is printed: what was sent, the answers, the members, the numbers that have twins, the
+ * target, and the settings that the loudspeaker read. One datagram is under way at a time and the
+ * sender's clock stands still, so the text is the same in every run. It is also the same over IPv4
+ * and over IPv6, and is printed once; stderr says whether IPv6 was there.
  *
  * The status is 0 only where everything came as expected.
  */
@@ -226,11 +226,11 @@ static void show_full(FILE *out, const char *name, uint64_t time)
     fprintf(out, " %s %" PRIu64 " %" PRIu64, name, time >> 32, time & 0xFFFFFFFF);
 }
 
-static void show_member(FILE *out, const struct prunepocket_record *member)
+static void show_member(FILE *out, const struct prunepocket_record *record)
 {
-    const struct prunepocket_report_fields *report = &member->report;
+    const struct prunepocket_report_fields *report = &record->report;
 
-    fprintf(out, "  member %" PRIu32, member->source);
+    fprintf(out, "  member %" PRIu32, record->source);
     show_full(out, "received", report->received);
     fprintf(out, " rtp %" PRIu32 " presented %" PRIu32 " %" PRIu32 "\n", report->rtp,
             report->presented >> 16, report->presented & 0xFFFF);
@@ -244,7 +244,19 @@ static void show_members(FILE *out, const struct prunepocket_table *table)
         struct prunepocket_place at = prunepocket_member_at(*table, place);
 
         if (at.held)
-            show_member(out, &at.member);
+            show_member(out, &at.member.record);
+    }
+}
+
+/* The members whose numbers others use as well, and how often these were refused. */
+static void show_twins(FILE *out, const struct prunepocket_table *table)
+{
+    for (size_t place = 0; place < PRUNEPOCKET_PLACES; place++) {
+        struct prunepocket_place at = prunepocket_member_at(*table, place);
+
+        if (at.member.tally > 0)
+            fprintf(out, "  number %" PRIu32 " has twins, tally %" PRIu32 "\n",
+                    at.member.record.source, at.member.tally);
     }
 }
 
@@ -334,7 +346,7 @@ static void take_datagram(struct host *host, const uint8_t *datagram, size_t len
         struct prunepocket_answered answered =
             take_item(host->table, taken->rows + i * PRUNEPOCKET_ROW, origin, reading);
 
-        /* After a refusal it is the table that was passed, so it is taken in every case. */
+        /* A refused twin raised a tally, so the table is taken in every case. */
         host->table = answered.table;
         taken->answers[i] = answered.number;
     }
@@ -418,13 +430,14 @@ static void send_settings(const struct host *host, const struct prunepocket_targ
         die("sending settings");
 }
 
-/* Shows the members and the target at a reading. */
+/* Shows the members, those with twins again, and the target at a reading. */
 static struct prunepocket_followed choose(const struct host *host,
                                           struct prunepocket_reading reading)
 {
     struct prunepocket_followed followed = prunepocket_choose(host->table, reading);
 
     show_members(host->out, &host->table);
+    show_twins(host->out, &host->table);
     show_target(host->out, &followed);
     return followed;
 }
@@ -558,19 +571,22 @@ struct step {
     enum message message;          /* what it sends */
     struct prunepocket_answer due; /* the refusal of the datagram or of its item, or none */
     uint32_t members;              /* how many there are afterwards */
+    uint32_t tallies;              /* and the tallies of all of them together */
     int followed;                  /* the loudspeaker whose times are the target */
 };
 
 static const struct step steps[] = {
-    {STAND, CUT_REPORT, {PRUNEPOCKET_BAD_PACKET, FRONT}, 0, NOBODY},
-    {STAND, REPORT, {PRUNEPOCKET_ACCEPTED, 0}, 1, STAND},
-    {RING, REPORT, {PRUNEPOCKET_ACCEPTED, 0}, 2, RING},
-    {TWIN, REPORT, {PRUNEPOCKET_OTHER_ORIGIN, 0}, 2, RING},
-    {TWIN, FAREWELL, {PRUNEPOCKET_OTHER_ORIGIN, 0}, 2, RING},
-    {RING, FAREWELL, {PRUNEPOCKET_ACCEPTED, 0}, 1, STAND},
-    {TWIN, REPORT, {PRUNEPOCKET_ACCEPTED, 0}, 2, TWIN},
-    {BATTERY, REPORT, {PRUNEPOCKET_ACCEPTED, 0}, 3, BATTERY},
-    {BATTERY, FAREWELL, {PRUNEPOCKET_ACCEPTED, 0}, 2, TWIN},
+    {STAND, CUT_REPORT, {PRUNEPOCKET_BAD_PACKET, FRONT}, 0, 0, NOBODY},
+    {STAND, REPORT, {PRUNEPOCKET_ACCEPTED, 0}, 1, 0, STAND},
+    {RING, REPORT, {PRUNEPOCKET_ACCEPTED, 0}, 2, 0, RING},
+    {TWIN, REPORT, {PRUNEPOCKET_OTHER_ORIGIN, 0}, 2, 1, RING},
+    {TWIN, FAREWELL, {PRUNEPOCKET_OTHER_ORIGIN, 0}, 2, 2, RING},
+    {RING, REPORT, {PRUNEPOCKET_ACCEPTED, 0}, 2, 2, RING},
+    {RING, FAREWELL, {PRUNEPOCKET_ACCEPTED, 0}, 1, 0, STAND},
+    {TWIN, REPORT, {PRUNEPOCKET_ACCEPTED, 0}, 2, 0, TWIN},
+    {RING, REPORT, {PRUNEPOCKET_OTHER_ORIGIN, 0}, 2, 1, TWIN},
+    {BATTERY, REPORT, {PRUNEPOCKET_ACCEPTED, 0}, 3, 1, BATTERY},
+    {BATTERY, FAREWELL, {PRUNEPOCKET_ACCEPTED, 0}, 2, 1, TWIN},
 };
 
 /* Either the datagram is refused, at its place, or its only item gets the number. */
@@ -624,6 +640,15 @@ static void get_settings(FILE *out, int fd, uint32_t reduced_size, const struct 
 
 /* ---- The course of events -------------------------------------------------------------------- */
 
+static uint32_t sum_of_tallies(const struct prunepocket_table *table)
+{
+    uint32_t sum = 0;
+
+    for (size_t place = 0; place < PRUNEPOCKET_PLACES; place++)
+        sum += prunepocket_member_at(*table, place).member.tally;
+    return sum;
+}
+
 static void take_step(struct host *host, const int *sockets, const struct step *step)
 {
     struct taken taken;
@@ -632,6 +657,7 @@ static void take_step(struct host *host, const int *sockets, const struct step *
     serve(host, now, &taken);
     expect_taken(&taken, step->due);
     expect(prunepocket_count_members(host->table) == step->members, "how many members there are");
+    expect(sum_of_tallies(&host->table) == step->tallies, "the members' tallies");
     get_settings(host->out, sockets[step->from], host->reduced_size, step);
 }
 

@@ -33,6 +33,19 @@
  * 29: count_items looks at the flag's last bit alone, so that 2 is not agreed
  * 30: item_field looks at the flag's last byte alone, so that 256 is not agreed
  * 31: take_datagram takes 1 alone for agreed
+ * 32: a twin's report that gets 13 raises the tally
+ * 33: a member's report that gets 15 raises its tally
+ * 34: a farewell that gets 14 does not raise the tally
+ * 35: a place keeps the tally of the member that left it by farewell
+ * 36: a place keeps the tally of the member that left it by a sweep
+ * 37: a member's own accepted report sets its tally to 0
+ * 38: the tally wraps at its limit
+ * 39: the tally stops one before its limit
+ * 40: the tally of the next member is raised
+ * 41: among equally late members the one of the highest tally is chosen
+ * 42: a number that joins anew has the tally that it left with
+ * 43: a call of a datagram that gets 14 does not raise the tally
+ * 44: a place that is not held shows the tally in its memory
  */
 #include "prunepocket.h"
 
@@ -56,6 +69,12 @@ struct prunepocket_answered __real_prunepocket_report(struct prunepocket_table, 
                                                       struct prunepocket_reading);
 struct prunepocket_answered __wrap_prunepocket_report(struct prunepocket_table, struct prunepocket_record,
                                                       struct prunepocket_reading);
+struct prunepocket_answered __real_prunepocket_farewell(struct prunepocket_table, uint32_t, struct prunepocket_origin);
+struct prunepocket_answered __wrap_prunepocket_farewell(struct prunepocket_table, uint32_t, struct prunepocket_origin);
+struct prunepocket_answered __real_prunepocket_sweep(struct prunepocket_table, struct prunepocket_reading);
+struct prunepocket_answered __wrap_prunepocket_sweep(struct prunepocket_table, struct prunepocket_reading);
+struct prunepocket_place __real_prunepocket_member_at(struct prunepocket_table, size_t);
+struct prunepocket_place __wrap_prunepocket_member_at(struct prunepocket_table, size_t);
 struct prunepocket_datagram_answered
 __real_prunepocket_take_datagram(struct prunepocket_table, const uint8_t *, size_t, uint32_t, struct prunepocket_origin,
                                  struct prunepocket_reading, uint64_t *, size_t);
@@ -131,14 +150,121 @@ __wrap_prunepocket_read_items(const uint8_t *datagram, size_t length, uint32_t r
     return answer;
 }
 
+static int is_held(const struct prunepocket_table *table, size_t place)
+{
+    return (table->held >> place & 1) == 1;
+}
+
+/* The first place of a number, among those held or those not held; PRUNEPOCKET_PLACES where it has none. */
+static size_t place_of(const struct prunepocket_table *table, uint32_t source, int held)
+{
+    size_t place = 0;
+
+    while (place < PRUNEPOCKET_PLACES &&
+           (is_held(table, place) != held || table->members[place].record.source != source))
+        place++;
+    return place;
+}
+
+/* The held place behind another, from the last on to the first. */
+static size_t next_held(const struct prunepocket_table *table, size_t place)
+{
+    do
+        place = (place + 1) % PRUNEPOCKET_PLACES;
+    while (!is_held(table, place));
+    return place;
+}
+
+/* After 14 under a number: the tally before and the one that came. */
+static void spoil_raised(const struct prunepocket_table *before, struct prunepocket_table *after, uint32_t source)
+{
+    size_t place = place_of(before, source, 1);
+    uint32_t tally = before->members[place].tally;
+
+    if (ARCHIVE_FAULT == 38 && tally == PRUNEPOCKET_TALLY_LIMIT)
+        after->members[place].tally = 0;
+    if (ARCHIVE_FAULT == 39 && tally == PRUNEPOCKET_TALLY_LIMIT - 1)
+        after->members[place].tally = tally;
+    if (ARCHIVE_FAULT == 40) {
+        uint32_t *next = &after->members[next_held(after, place)].tally;
+
+        after->members[place].tally = tally;
+        *next += *next < PRUNEPOCKET_TALLY_LIMIT;
+    }
+}
+
+/* An accepted report, of a member or of a new one. Memory at places that are not held still has who left. */
+static void spoil_accepted(const struct prunepocket_table *before, struct prunepocket_table *after, uint32_t source)
+{
+    size_t place = place_of(after, source, 1);
+    int is_new = !is_held(before, place);
+    size_t left = place_of(before, source, 0);
+
+    if (ARCHIVE_FAULT == 37 && !is_new)
+        after->members[place].tally = 0;
+    if ((ARCHIVE_FAULT == 35 || ARCHIVE_FAULT == 36) && is_new)
+        after->members[place].tally = before->members[place].tally;
+    if (ARCHIVE_FAULT == 42 && is_new && left < PRUNEPOCKET_PLACES)
+        after->members[place].tally = before->members[left].tally;
+}
+
+/* Members that left, by farewell or by a sweep: memory keeps their tallies, or has 0. */
+static void spoil_left(const struct prunepocket_table *before, struct prunepocket_table *after, int keeps)
+{
+    for (size_t place = 0; place < PRUNEPOCKET_PLACES; place++)
+        if (is_held(before, place) && !is_held(after, place))
+            after->members[place].tally = keeps ? before->members[place].tally : 0;
+}
+
 struct prunepocket_answered __wrap_prunepocket_report(struct prunepocket_table table, struct prunepocket_record record,
                                                       struct prunepocket_reading reading)
 {
     struct prunepocket_answered answered = __real_prunepocket_report(table, record, reading);
+    size_t place = place_of(&table, record.source, 1);
+    int is_twin = place < PRUNEPOCKET_PLACES &&
+                  memcmp(&table.members[place].record.origin, &record.origin, sizeof record.origin) != 0;
 
     if (ARCHIVE_FAULT == 7 && answered.number == PRUNEPOCKET_OTHER_ORIGIN)
-        answered.table.members[0].report.payload_type ^= 1;
+        answered.table.members[0].record.report.payload_type ^= 1;
+    if (ARCHIVE_FAULT == 32 && answered.number == PRUNEPOCKET_OTHER_STREAM && is_twin)
+        answered.table.members[place].tally++;
+    if (ARCHIVE_FAULT == 33 && answered.number == PRUNEPOCKET_RECEIVED_FAR && place < PRUNEPOCKET_PLACES)
+        answered.table.members[place].tally++;
+    if (answered.number == PRUNEPOCKET_OTHER_ORIGIN)
+        spoil_raised(&table, &answered.table, record.source);
+    if (answered.number == PRUNEPOCKET_ACCEPTED)
+        spoil_accepted(&table, &answered.table, record.source);
     return answered;
+}
+
+struct prunepocket_answered __wrap_prunepocket_farewell(struct prunepocket_table table, uint32_t source,
+                                                        struct prunepocket_origin origin)
+{
+    struct prunepocket_answered answered = __real_prunepocket_farewell(table, source, origin);
+
+    if (ARCHIVE_FAULT == 34 && answered.number == PRUNEPOCKET_OTHER_ORIGIN)
+        answered.table = table;
+    if (answered.number == PRUNEPOCKET_OTHER_ORIGIN)
+        spoil_raised(&table, &answered.table, source);
+    spoil_left(&table, &answered.table, ARCHIVE_FAULT != 36);
+    return answered;
+}
+
+struct prunepocket_answered __wrap_prunepocket_sweep(struct prunepocket_table table, struct prunepocket_reading reading)
+{
+    struct prunepocket_answered answered = __real_prunepocket_sweep(table, reading);
+
+    spoil_left(&table, &answered.table, ARCHIVE_FAULT != 35);
+    return answered;
+}
+
+struct prunepocket_place __wrap_prunepocket_member_at(struct prunepocket_table table, size_t place)
+{
+    struct prunepocket_place at = __real_prunepocket_member_at(table, place);
+
+    if (ARCHIVE_FAULT == 44 && place < PRUNEPOCKET_PLACES && !at.held)
+        at.member.tally = table.members[place].tally;
+    return at;
 }
 
 struct prunepocket_datagram_answered
@@ -156,8 +282,48 @@ __wrap_prunepocket_take_datagram(struct prunepocket_table table, const uint8_t *
         reduced_size = reduced_size == 1;
     if (ARCHIVE_FAULT == 28 && reduced_size != 0 && length > 0)
         datagram = without_first_p(datagram, length);
-    return __real_prunepocket_take_datagram(table, datagram, length, reduced_size, origin, reading, answers,
-                                            answers_length);
+
+    struct prunepocket_datagram_answered answered = __real_prunepocket_take_datagram(
+        table, datagram, length, reduced_size, origin, reading, answers, answers_length);
+
+    for (size_t place = 0; ARCHIVE_FAULT == 43 && place < PRUNEPOCKET_PLACES; place++)
+        if (is_held(&table, place) && answered.table.members[place].tally > table.members[place].tally)
+            answered.table.members[place].tally = table.members[place].tally;
+    return answered;
+}
+
+/* The lateness of a target's three times, in units of 1/(rate * 2^32) s. */
+static int64_t lateness(const struct prunepocket_target *target, uint32_t rate, struct prunepocket_reading reading)
+{
+    uint64_t delay = target->presented == 0 ? 0 : target->presented - target->received;
+    uint64_t ntp_age = reading.ntp - target->received;
+    uint32_t rtp_age = reading.rtp - target->rtp;
+
+    return (int64_t)rate * ((int64_t)delay - (int64_t)ntp_age) + ((int64_t)rtp_age << 32);
+}
+
+/* The target, or that of an equally late member of the highest tally: each is chosen where it alone is held. */
+static struct prunepocket_target choose_by_tally(struct prunepocket_table table, struct prunepocket_reading reading,
+                                                 struct prunepocket_target target)
+{
+    uint64_t held = table.held;
+    uint32_t highest = table.members[place_of(&table, target.source, 1)].tally;
+    struct prunepocket_target chosen = target;
+
+    for (size_t place = 0; place < PRUNEPOCKET_PLACES; place++) {
+        struct prunepocket_followed alone;
+
+        table.held = held & UINT64_C(1) << place;
+        alone = __real_prunepocket_choose(table, reading);
+        if (alone.number == PRUNEPOCKET_ACCEPTED && (alone.target.presented == 0) == (target.presented == 0) &&
+            lateness(&alone.target, table.rate, reading) == lateness(&target, table.rate, reading) &&
+            table.members[place].tally > highest) {
+            highest = table.members[place].tally;
+            chosen = alone.target;
+        }
+    }
+    chosen.counted = target.counted;
+    return chosen;
 }
 
 struct prunepocket_followed __wrap_prunepocket_choose(struct prunepocket_table table,
@@ -167,6 +333,8 @@ struct prunepocket_followed __wrap_prunepocket_choose(struct prunepocket_table t
 
     if (ARCHIVE_FAULT == 8)
         followed.table.held &= ~UINT64_C(1);
+    if (ARCHIVE_FAULT == 41 && followed.number == PRUNEPOCKET_ACCEPTED)
+        followed.target = choose_by_tally(table, reading, followed.target);
     return followed;
 }
 

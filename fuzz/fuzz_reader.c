@@ -257,7 +257,7 @@ static void check_alike(const uint8_t *datagram, size_t length)
         same("rows at reduced size beside not", rows[1][i], rows[0][i]);
 }
 
-static void tally(bool reduced_size, const struct decoded *decoded)
+static void count_met(bool reduced_size, const struct decoded *decoded)
 {
     struct met *at = &met[reduced_size];
     size_t bucket = decoded->place / BUCKET_BYTES;
@@ -323,7 +323,7 @@ static void check_datagram(const uint8_t *data, const uint8_t *near_end, const u
     static struct decoded decoded;
 
     decode(data, size, reduced_size, &decoded);
-    tally(reduced_size, &decoded);
+    count_met(reduced_size, &decoded);
 
     check_count(near_end, size, reduced_size, &decoded);
     check_count(near_start, size, reduced_size, &decoded);

@@ -68,7 +68,7 @@ static size_t answer_of(unsigned refusal)
     }
 }
 
-static void tally(uint64_t met[ANSWERS][DIGITS], uint8_t *counted, unsigned refusal, size_t digits)
+static void count_met(uint64_t met[ANSWERS][DIGITS], uint8_t *counted, unsigned refusal, size_t digits)
 {
     size_t answer = answer_of(refusal);
     size_t at = digits < LAST_COUNTED ? digits : LAST_COUNTED;
@@ -143,7 +143,7 @@ static const uint8_t *check_write(uint32_t group, size_t room)
 
     for (size_t i = 0; i < GUARDS + room; i++)
         guards[i] = fill_byte(i);
-    tally(met_writing, counters + ANSWERS * DIGITS, expected.refusal, digits_in(group));
+    count_met(met_writing, counters + ANSWERS * DIGITS, expected.refusal, digits_in(group));
 
     calls++;
     struct prunepocket_answer answer = prunepocket_write_sync_group(group, buffer, room, &lent[1]);
@@ -258,7 +258,7 @@ int LLVMFuzzerTestOneInput(const uint8_t *data, size_t size)
     }
 
     struct line_read expected = read_line(near_end, length);
-    tally(met_reading, counters, expected.refusal, expected.digits);
+    count_met(met_reading, counters, expected.refusal, expected.digits);
     if (expected.digits > most_digits)
         most_digits = expected.digits;
 

@@ -1,7 +1,7 @@
 /*
  * Takes every input as a script of calls, gives them to the archive's member table and to the plain register, and
- * aborts where an answer, a member, its place or the target differs. What a whole datagram holds is the decoder's word.
- * The form of a script is in README.md.
+ * aborts where an answer, a member, its place, its tally or the target differs. What a whole datagram holds is the
+ * decoder's word. The form of a script is in README.md.
  */
 #include "decoder.h"
 #include "lend.h"
@@ -31,11 +31,13 @@ static const char *const low_bits_names[LOW_BITS] = {"low bits 0", "low bits 1",
 /* What is told apart of new members that 13 to 17 let pass: where they stand. */
 enum new_member { AT_0, AT_0_BELOW, BELOW, AT_63_LAST, NO_PLACE, NEW_MEMBERS };
 
-/* With the number of reports of which at least one must be such. */
-static const struct {
+/* What was met, with the number of reports of which at least one must be such. */
+struct share {
     const char *name;
     uint64_t reports;
-} new_member_kinds[NEW_MEMBERS] = {
+};
+
+static const struct share new_member_shares[NEW_MEMBERS] = {
     {"at place 0", 100},
     {"at place 0 below held places", 10000},
     {"at any place below held places", 2000},
@@ -43,14 +45,47 @@ static const struct {
     {"refused with 18", 100},
 };
 
+/* What is told apart of tallies: what raised them, and what must leave them or begin anew. */
+enum tally_case {
+    BY_REPORT,
+    BY_FAREWELL,
+    IN_DATAGRAM,
+    TWIN_13,
+    OWN_15,
+    OWN_ACCEPTED,
+    SWEEP_OUTLASTED,
+    AFTER_FAREWELL,
+    AFTER_SWEEP,
+    TO_LIMIT,
+    AT_LIMIT,
+    EQUAL_HIGHER,
+    TALLY_CASES
+};
+
+static const struct share tally_shares[TALLY_CASES] = {
+    {"14 of a report", 100},
+    {"14 of a farewell", 1000},
+    {"14 in a datagram", 10000},
+    {"13 of a twin", 10000},
+    {"15 of a tallied member", 10000},
+    {"accepted of a tallied member", 1000},
+    {"sweeps outlasted by a tallied member", 10000},
+    {"new member at the place of a tallied one after a farewell", 20000},
+    {"new member at the place of a tallied one after a sweep", 20000},
+    {"14 up to the limit", 10000},
+    {"14 at the limit", 10000},
+    {"chosen among equals of higher tallies", 1000},
+};
+
 /*
- * What the fuzzer is told beside the branches: answers by call, at a step of 0, rows, the place of
- * a new member with none held above it, with some, or with all others held, and how a target came
- * about.
+ * What the fuzzer is told beside the branches: answers by call, at a step of 0, with tallies, rows,
+ * the place of a new member with none held above it, with some, or with all others held, and how a
+ * target came about.
  */
 enum {
     BY_LOW_BITS = CALLS * NUMBERS,
-    BY_ROWS = BY_LOW_BITS + LOW_BITS * NUMBERS,
+    BY_TALLY = BY_LOW_BITS + LOW_BITS * NUMBERS,
+    BY_ROWS = BY_TALLY + TALLY_CASES,
     BY_PLACE = BY_ROWS + 65,
     BY_COUNTED = BY_PLACE + 3 * 65,
     BY_TIES = BY_COUNTED + 3 * 65,
@@ -67,6 +102,9 @@ static uint64_t reports, at_step_0[LOW_BITS][NUMBERS], wired, wired_ties;
 
 /* Reports of new members, by calls and in datagrams. */
 static uint64_t new_members[NEW_MEMBERS];
+
+/* What befell tallies, by calls and in datagrams. */
+static uint64_t tallies_met[TALLY_CASES];
 
 /* Below so many reports, as where one input is run, a share says nothing. */
 #define ENOUGH_REPORTS 10000
@@ -113,14 +151,14 @@ static void print_step_0(void)
         at_least(low_bits_names[i], count_step_0(i), reports / 1000);
 }
 
-static void print_new_members(void)
+static void print_shares(const char *what, const struct share *shares, const uint64_t *counts, size_t length)
 {
-    fputs("new members:", stderr);
-    for (size_t i = 0; i < NEW_MEMBERS; i++)
-        fprintf(stderr, " %s %" PRIu64 ";", new_member_kinds[i].name, new_members[i]);
+    fprintf(stderr, "%s:", what);
+    for (size_t i = 0; i < length; i++)
+        fprintf(stderr, " %s %" PRIu64 ";", shares[i].name, counts[i]);
     fputs("\n", stderr);
-    for (size_t i = 0; i < NEW_MEMBERS; i++)
-        at_least(new_member_kinds[i].name, new_members[i], reports / new_member_kinds[i].reports);
+    for (size_t i = 0; i < length; i++)
+        at_least(shares[i].name, counts[i], reports / shares[i].reports);
 }
 
 static void print_met(void)
@@ -136,7 +174,8 @@ static void print_met(void)
                     " among equals\n",
             targets[0], ties[0], targets[1], ties[1]);
     print_step_0();
-    print_new_members();
+    print_shares("new members", new_member_shares, new_members, NEW_MEMBERS);
+    print_shares("tallies", tally_shares, tallies_met, TALLY_CASES);
     fprintf(stderr, "reports replaced: %" PRIu64 "; members swept: %" PRIu64 "; at most %" PRIu64
                     " members; looks at all members: %" PRIu64 "\n",
             replaced, swept, most_rows, looks);
@@ -153,9 +192,13 @@ int LLVMFuzzerInitialize(int *argc, char ***argv)
 
 /* ---- Both sides of the comparison ---- */
 
+/* How a member with a tally above 0 left a place where none has joined since. */
+enum leaving { NONE_LEFT, LEFT_BY_FAREWELL, LEFT_BY_SWEEP };
+
 struct sides {
     struct prunepocket_table table;
     struct plain_register rows;
+    enum leaving left[PLACES];
     unsigned calls;
 };
 
@@ -201,6 +244,12 @@ static void same_record(const struct prunepocket_record *archive, const struct p
     same("p of a member", archive->report.p, expected->report.p);
 }
 
+static void same_member(const struct prunepocket_member *archive, const struct prunepocket_member *expected)
+{
+    same_record(&archive->record, &expected->record);
+    same("tally of a member", archive->tally, expected->tally);
+}
+
 static void same_table(const struct prunepocket_table *archive, const struct prunepocket_table *before)
 {
     same("group of the table as before", archive->group, before->group);
@@ -210,20 +259,20 @@ static void same_table(const struct prunepocket_table *archive, const struct pru
     /* Padding may differ, so only where the bytes do are the fields looked at. */
     if (memcmp(archive->members, before->members, sizeof before->members) != 0)
         for (size_t i = 0; i < PRUNEPOCKET_PLACES; i++)
-            same_record(&archive->members[i], &before->members[i]);
+            same_member(&archive->members[i], &before->members[i]);
 }
 
-/* At a place stands the row there; where there is none, as behind the last place, all is zeros. */
+/* At a place stands the row there with its tally; where there is none, as behind the last place, all is zeros. */
 static void look_at(const struct sides *sides, size_t place)
 {
     const struct row *row = register_row_at(&sides->rows, place);
-    struct prunepocket_record record = {0};
+    struct prunepocket_member member = {.tally = register_tally_at(&sides->rows, place)};
     struct prunepocket_place at = prunepocket_member_at(sides->table, place);
 
     if (row)
-        record = to_record(row);
+        member.record = to_record(row);
     same("held", at.held, row != NULL);
-    same_record(&at.member, &record);
+    same_member(&at.member, &member);
 }
 
 static void look(const struct sides *sides)
@@ -268,6 +317,7 @@ static bool open_both(struct sides *sides, uint32_t group, uint32_t media, uint3
     if (number != 0)
         return false;
     sides->table = answered.table;
+    memset(sides->left, 0, sizeof sides->left);
     look(sides);
     return true;
 }
@@ -288,7 +338,7 @@ static enum low_bits low_bits_of(uint64_t received)
     }
 }
 
-static void tally_report(const struct told *report, unsigned number)
+static void count_report(const struct told *report, unsigned number)
 {
     reports++;
     if (report->p != 0 && register_same_slot(report)) {
@@ -306,7 +356,7 @@ static size_t place_of(const struct plain_register *rows, uint32_t source)
 }
 
 /* A new row stands at a place, or at none. All places below it are held. */
-static void tally_new_member(const struct plain_register *rows, size_t place)
+static void count_new_member(const struct plain_register *rows, size_t place)
 {
     size_t count = register_count(rows);
     bool last = count == PLACES;
@@ -320,20 +370,87 @@ static void tally_new_member(const struct plain_register *rows, size_t place)
     counters[BY_PLACE + 65 * (last ? 2 : below) + place] = 1;
 }
 
+static void count_tally(enum tally_case tally_case)
+{
+    tallies_met[tally_case]++;
+    counters[BY_TALLY + tally_case] = 1;
+}
+
+/* A call under the number of the row at a place, which had this tally before it, got 14. */
+static void count_14(enum tally_case raised_by, uint32_t tally)
+{
+    count_tally(raised_by);
+    if (tally == TALLY_LIMIT)
+        count_tally(AT_LIMIT);
+    if (tally == TALLY_LIMIT - 1)
+        count_tally(TO_LIMIT);
+}
+
+/* What a report got of another origin than the row's, or of the row's own; before, the row had this tally. */
+static void count_member_report(bool twin, unsigned number, uint32_t tally)
+{
+    if (number == 14)
+        count_14(BY_REPORT, tally);
+    if (number == 13 && twin)
+        count_tally(TWIN_13);
+    if (number == 15 && tally > 0)
+        count_tally(OWN_15);
+    if (number == 0 && tally > 0)
+        count_tally(OWN_ACCEPTED);
+    replaced += number == 0;
+}
+
+static void count_joining(struct sides *sides, size_t place)
+{
+    count_new_member(&sides->rows, place);
+    if (sides->left[place] == LEFT_BY_FAREWELL)
+        count_tally(AFTER_FAREWELL);
+    if (sides->left[place] == LEFT_BY_SWEEP)
+        count_tally(AFTER_SWEEP);
+    sides->left[place] = NONE_LEFT;
+}
+
 /* The register's number for a report. */
 static unsigned report_expected(struct sides *sides, const struct row *row, struct clocks now)
 {
-    bool known = register_row(&sides->rows, row->source) != NULL;
+    const struct row *member = register_row(&sides->rows, row->source);
+    bool twin = member && memcmp(&member->origin, &row->origin, sizeof row->origin) != 0;
+    uint32_t tally = member ? register_tally_at(&sides->rows, place_of(&sides->rows, row->source)) : 0;
     unsigned number = register_report(&sides->rows, row, now);
 
-    tally_report(&row->report, number);
-    if (number == 0 && known)
-        replaced++;
-    if (number == 0 && !known)
-        tally_new_member(&sides->rows, place_of(&sides->rows, row->source));
+    count_report(&row->report, number);
+    if (member)
+        count_member_report(twin, number, tally);
+    if (number == 0 && !member)
+        count_joining(sides, place_of(&sides->rows, row->source));
     if (number == 18)
-        tally_new_member(&sides->rows, PLACES);
+        count_new_member(&sides->rows, PLACES);
     return number;
+}
+
+/* The register's number for a farewell. */
+static unsigned farewell_expected(struct sides *sides, uint32_t source, const struct from *origin)
+{
+    const struct row *member = register_row(&sides->rows, source);
+    size_t place = member ? place_of(&sides->rows, source) : PLACES;
+    uint32_t tally = register_tally_at(&sides->rows, place);
+    unsigned number = register_farewell(&sides->rows, source, origin);
+
+    if (number == 14)
+        count_14(BY_FAREWELL, tally);
+    if (number == 0)
+        sides->left[place] = tally > 0 ? LEFT_BY_FAREWELL : NONE_LEFT;
+    return number;
+}
+
+/* 14 raises the holder's tally, and all else of the table is as before. */
+static void expect_raised(struct sides *sides, uint32_t source, unsigned number)
+{
+    if (number == 14) {
+        size_t place = place_of(&sides->rows, source);
+
+        sides->table.members[place].tally = register_tally_at(&sides->rows, place);
+    }
 }
 
 static void report_both(struct sides *sides, const struct row *row, struct clocks now)
@@ -342,6 +459,7 @@ static void report_both(struct sides *sides, const struct row *row, struct clock
     struct prunepocket_answered answered = prunepocket_report(sides->table, to_record(row), reading);
     unsigned number = report_expected(sides, row, now);
 
+    expect_raised(sides, row->source, number);
     take(sides, FILE_REPORT, &answered, number);
     if (number == 0)
         look_at(sides, place_of(&sides->rows, row->source));
@@ -350,8 +468,28 @@ static void report_both(struct sides *sides, const struct row *row, struct clock
 static void farewell_both(struct sides *sides, uint32_t source, const struct from *origin)
 {
     struct prunepocket_answered answered = prunepocket_farewell(sides->table, source, to_origin(origin));
+    unsigned number = farewell_expected(sides, source, origin);
 
-    take(sides, SAY_FAREWELL, &answered, register_farewell(&sides->rows, source, origin));
+    expect_raised(sides, source, number);
+    take(sides, SAY_FAREWELL, &answered, number);
+}
+
+/* The register's sweep, after which the places of members with tallies are known. */
+static void sweep_expected(struct sides *sides, struct clocks now)
+{
+    uint32_t tallies[PLACES];
+    bool held[PLACES];
+
+    memcpy(held, sides->rows.held, sizeof held);
+    for (size_t place = 0; place < PLACES; place++)
+        tallies[place] = register_tally_at(&sides->rows, place);
+    register_sweep(&sides->rows, now);
+    for (size_t place = 0; place < PLACES; place++) {
+        if (sides->rows.held[place] && tallies[place] > 0)
+            count_tally(SWEEP_OUTLASTED);
+        if (held[place] && !sides->rows.held[place])
+            sides->left[place] = tallies[place] > 0 ? LEFT_BY_SWEEP : NONE_LEFT;
+    }
 }
 
 static void sweep_both(struct sides *sides, struct clocks now)
@@ -360,12 +498,12 @@ static void sweep_both(struct sides *sides, struct clocks now)
     struct prunepocket_answered answered = prunepocket_sweep(sides->table, reading);
     size_t before = register_count(&sides->rows);
 
-    register_sweep(&sides->rows, now);
+    sweep_expected(sides, now);
     swept += before - register_count(&sides->rows);
     take(sides, SWEEP, &answered, 0);
 }
 
-static void tally_choice(const struct choice *choice)
+static void count_choice(const struct choice *choice)
 {
     int mode = choice->by_arrival ? 1 : 0;
     int told = choice->same_slot ? 2 : mode;
@@ -382,6 +520,17 @@ static void tally_choice(const struct choice *choice)
     counters[BY_TIES + 65 * told + choice->equally_late] = 1;
 }
 
+/* The target, which is among equals, has an equal with a higher tally. */
+static bool has_equal_above(const struct plain_register *rows, const struct choice *choice)
+{
+    uint32_t tally = register_tally_at(rows, place_of(rows, choice->source));
+
+    for (size_t place = 0; place < PLACES; place++)
+        if (choice->latest[place] && register_tally_at(rows, place) > tally)
+            return true;
+    return false;
+}
+
 static void choose_both(struct sides *sides, struct clocks now)
 {
     struct prunepocket_reading reading = {.ntp = now.n, .rtp = now.r};
@@ -389,7 +538,9 @@ static void choose_both(struct sides *sides, struct clocks now)
     struct prunepocket_followed followed = prunepocket_choose(sides->table, reading);
 
     sides->calls++;
-    tally_choice(&expected);
+    count_choice(&expected);
+    if (expected.equally_late > 0 && has_equal_above(&sides->rows, &expected))
+        count_tally(EQUAL_HIGHER);
     same("choose", followed.number, expected.number);
     same("source of the target", followed.target.source, expected.source);
     same("group of the target", followed.target.group, expected.group);
@@ -475,9 +626,19 @@ static size_t numbers_expected(struct sides *sides, const struct arrival *arriva
         if (item->kind == REPORT)
             numbers[count++] = report_expected(sides, &row, arrival->now);
         else if (item->kind == FAREWELL)
-            numbers[count++] = register_farewell(&sides->rows, item->source, &arrival->origin);
+            numbers[count++] = farewell_expected(sides, item->source, &arrival->origin);
+        if (item->kind != SETTINGS && numbers[count - 1] == 14)
+            count_tally(IN_DATAGRAM);
     }
     return count;
+}
+
+/* The members that a datagram speaks of stand there as the register has them. */
+static void look_at_sources(const struct sides *sides, const struct decoded *decoded)
+{
+    for (size_t i = 0; i < decoded->count; i++)
+        if (register_row(&sides->rows, decoded->items[i].source))
+            look_at(sides, place_of(&sides->rows, decoded->items[i].source));
 }
 
 static void datagram_both(struct sides *sides, const struct arrival *arrival)
@@ -497,6 +658,7 @@ static void datagram_both(struct sides *sides, const struct arrival *arrival)
     same("count of take_datagram", taken.answered.count, count);
     for (size_t i = 0; i < MOST_ITEMS; i++)
         same("list of take_datagram", taken.numbers[i], i < count ? numbers[i] : fill(i));
+    look_at_sources(sides, &decoded);
 }
 
 /* ---- The script ---- */
@@ -843,6 +1005,27 @@ static void leave(struct script *script, struct sides *sides)
     }
 }
 
+/*
+ * C writes a tally near the limit to a member of the table value, and the register is told of it. Then a twin, whose
+ * origin differs in one byte, says farewell.
+ */
+static void write_tally(struct script *script, struct sides *sides)
+{
+    size_t count = register_count(&sides->rows);
+
+    if (count > 0) {
+        const struct row *row = row_behind(&sides->rows, byte(script) % count);
+        size_t place = (size_t)(row - sides->rows.rows);
+        uint8_t said = byte(script);
+        struct from twin = row->origin;
+
+        sides->table.members[place].tally = TALLY_LIMIT - said % 4;
+        register_start_tally(&sides->rows, place, TALLY_LIMIT - said % 4);
+        twin.bytes[said / 4 % 18] ^= 1;
+        farewell_both(sides, row->source, &twin);
+    }
+}
+
 static void call_script(struct script *script, struct sides *sides)
 {
     static struct arrival arrival;
@@ -900,6 +1083,8 @@ static void call_script(struct script *script, struct sides *sides)
             sweep_both(sides, now);
             break;
         case 7:
+            if (said & 16)
+                write_tally(script, sides);
             choose_both(sides, now);
             break;
         case 8: /* choosing at another reading, which does not move the clocks */

@@ -1,5 +1,7 @@
 #include "register.h"
 
+#include <stdio.h>
+#include <stdlib.h>
 #include <string.h>
 
 /*
@@ -167,11 +169,21 @@ unsigned register_open(struct plain_register *rows, uint32_t group, uint32_t med
     rows->group = group;
     rows->media = media;
     rows->rate = rate;
+    rows->calls = 0;
     memset(rows->held, 0, sizeof rows->held);
     return 0;
 }
 
-unsigned register_report(struct plain_register *rows, const struct row *row, struct clocks now)
+static void note(struct plain_register *rows, struct answered_call call)
+{
+    if (rows->calls == MOST_HISTORY) {
+        fputs("register: the history is full\n", stderr);
+        exit(1);
+    }
+    rows->history[rows->calls++] = call;
+}
+
+static unsigned answer_report(struct plain_register *rows, const struct row *row, struct clocks now)
 {
     const struct told *report = &row->report;
     const struct row *before = register_row(rows, row->source);
@@ -199,7 +211,16 @@ unsigned register_report(struct plain_register *rows, const struct row *row, str
     return 0;
 }
 
-unsigned register_farewell(struct plain_register *rows, uint32_t source, const struct from *origin)
+unsigned register_report(struct plain_register *rows, const struct row *row, struct clocks now)
+{
+    bool is_member = register_row(rows, row->source) != NULL;
+    unsigned number = answer_report(rows, row, now);
+
+    note(rows, (struct answered_call){.source = row->source, .number = number, .starts = number == 0 && !is_member});
+    return number;
+}
+
+static unsigned answer_farewell(struct plain_register *rows, uint32_t source, const struct from *origin)
 {
     const struct row *row = register_row(rows, source);
 
@@ -209,6 +230,40 @@ unsigned register_farewell(struct plain_register *rows, uint32_t source, const s
         return 14;
     rows->held[row - rows->rows] = false;
     return 0;
+}
+
+unsigned register_farewell(struct plain_register *rows, uint32_t source, const struct from *origin)
+{
+    unsigned number = answer_farewell(rows, source, origin);
+
+    note(rows, (struct answered_call){.source = source, .number = number});
+    return number;
+}
+
+void register_start_tally(struct plain_register *rows, size_t place, uint32_t tally)
+{
+    note(rows, (struct answered_call){.source = rows->rows[place].source, .starts = true, .from = tally});
+}
+
+uint32_t register_tally_at(const struct plain_register *rows, size_t place)
+{
+    const struct row *row = register_row_at(rows, place);
+    uint64_t tally = 0;
+
+    if (!row)
+        return 0;
+    for (size_t i = rows->calls; i > 0; i--) {
+        const struct answered_call *call = &rows->history[i - 1];
+
+        if (call->source != row->source)
+            continue;
+        if (call->starts) {
+            tally += call->from;
+            break;
+        }
+        tally += call->number == 14;
+    }
+    return tally < TALLY_LIMIT ? (uint32_t)tally : TALLY_LIMIT;
 }
 
 void register_sweep(struct plain_register *rows, struct clocks now)
@@ -245,6 +300,7 @@ struct choice register_choose(const struct plain_register *rows, struct clocks n
         bool lower = REGISTER_FAULT != 1 && chosen && row->source < chosen->source;
         if (!chosen || late > latest) {
             choice.equally_late = 0;
+            memset(choice.latest, 0, sizeof choice.latest);
             chosen = row;
             latest = late;
         } else if (late == latest) {
@@ -252,6 +308,7 @@ struct choice register_choose(const struct plain_register *rows, struct clocks n
             if (lower)
                 chosen = row;
         }
+        choice.latest[place] = late == latest;
     }
     if (!chosen)
         return choice;

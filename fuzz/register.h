@@ -1,7 +1,7 @@
 /*
- * The plain register and choosing, written from document 01 and E3 and E4 of
+ * The plain register and choosing, written from document 01 and E3, E4 and E5 of
  * document 02 alone. It is fed the calls' arguments and nothing from the table that
- * it is compared with.
+ * it is compared with. A tally is counted in the list of calls, where it is asked for.
  */
 #ifndef FUZZ_REGISTER_H
 #define FUZZ_REGISTER_H
@@ -34,13 +34,32 @@ struct row {
     struct told report;
 };
 
-/* Each row stands at its member's place. What stands at a place that is not held is no row. */
+/* A report or farewell that was answered. */
+struct answered_call {
+    uint32_t source;
+    unsigned number;
+    /* An accepted report whose number was no member's by the calls before it, or a tally that was told. */
+    bool starts;
+    uint32_t from; /* the tally from there on: 0 where it joins */
+};
+
+/* More reports and farewells than a script leads to, those in datagrams among them. */
+#define MOST_HISTORY 65536
+
+#define TALLY_LIMIT 4294967295
+
+/*
+ * Each row stands at its member's place. What stands at a place that is not held is no row. The history is all reports
+ * and farewells since the opening.
+ */
 struct plain_register {
     uint32_t group;
     uint32_t media;
     uint32_t rate;
     bool held[PLACES];
     struct row rows[PLACES];
+    size_t calls;
+    struct answered_call history[MOST_HISTORY];
 };
 
 /* The sender's clocks: NTP time N and RTP time R. */
@@ -59,8 +78,9 @@ struct choice {
     uint32_t rtp;
     uint64_t presented;
     uint32_t counted;
-    /* Not of the answer, but of how it came: for the tally of what was met. */
+    /* Not of the answer, but of how it came: to count what was met. */
     uint32_t equally_late;
+    bool latest[PLACES]; /* the chosen row and its equals */
     int by_arrival;
     int same_slot;
 };
@@ -79,6 +99,15 @@ int register_same_slot(const struct told *report);
 /* The row of a source number, and the row at any place, or null. */
 const struct row *register_row(const struct plain_register *rows, uint32_t source);
 const struct row *register_row_at(const struct plain_register *rows, size_t place);
+
+/*
+ * Of the calls that got 14 under a row's number behind its last joining, how many there are, cut at the limit. 0 where
+ * no row stands at the place.
+ */
+uint32_t register_tally_at(const struct plain_register *rows, size_t place);
+
+/* The row at a place has this tally from here on, whatever calls were before: a table value that C has written on. */
+void register_start_tally(struct plain_register *rows, size_t place, uint32_t tally);
 
 /* How many rows there are. */
 size_t register_count(const struct plain_register *rows);

@@ -215,9 +215,10 @@ struct prunepocket_answer prunepocket_write_sync_group(uint32_t group,
  *     table = answered.table;
  *
  * After a refusal the table handed back equals the one that was passed (bytes
- * of padding may differ), so that it may be taken in every case. Opening alone
- * is otherwise: refused with 12, it gives no table. What it then hands back
- * stands for none and is not to be passed on; look at the number first.
+ * of padding may differ), except that 14 raises the tally of the member that
+ * holds the source number. So take the table in every case. Opening alone is
+ * otherwise: refused with 12, it gives no table. What it then hands back stands
+ * for none and is not to be passed on; look at the number first.
  *
  * For each item that a reader gives, the host files a report, or calls
  * prunepocket_farewell with a farewell's source, under the origin that the
@@ -239,8 +240,10 @@ struct prunepocket_answer prunepocket_write_sync_group(uint32_t group,
 /*
  * Where a datagram came from. Two origins are equal when all eighteen bytes of
  * address and port are. A source number belongs to the origin that holds it;
- * another origin with the same number, a twin, is refused with 14 and never
- * alters the member. Two units behind one address and port cannot be told apart.
+ * another origin with the same number, a twin, is refused with 14, or with 13
+ * where its report is of another group or media source, and never alters the
+ * member's number, origin or report. A 14 raises the member's tally. Two units
+ * behind one address and port cannot be told apart.
  */
 struct prunepocket_origin {
     uint8_t address[16]; /* The IPv6 address in network order; an IPv4 address as the IPv4-mapped ::ffff:a.b.c.d. */
@@ -261,11 +264,28 @@ struct prunepocket_report_fields {
     uint8_t p;            /* P is 0 or 1: any value but 0 counts as P 1, and is kept as it was given. */
 };
 
-/* A report under its source number and its origin: what the table is told, and what it holds. */
+/* A report under its source number and its origin: what the table is told. */
 struct prunepocket_record {
     uint32_t source;                         /* The source number, which is the SSRC of the report's sender. */
     struct prunepocket_origin origin;        /* Where the report came from. */
     struct prunepocket_report_fields report; /* The fields of the report. */
+};
+
+#define PRUNEPOCKET_TALLY_LIMIT UINT32_C(4294967295) /* where a tally stops */
+
+/*
+ * A member: the record that it stands on, and its tally. The tally says how many
+ * times the member's source number was refused with 14, by prunepocket_report,
+ * prunepocket_farewell or in a datagram, since the member last joined, and stops
+ * at PRUNEPOCKET_TALLY_LIMIT: a tally above 0 tells that the source number has a
+ * twin. It starts at 0 where the member joins, and goes when the member goes, by
+ * farewell or sweep: one that joins anew starts at 0 again. No other refusal
+ * counts, whoever gets it, and neither the member's own reports nor a sweep that
+ * it outlasts changes the tally. Choosing does not look at it.
+ */
+struct prunepocket_member {
+    struct prunepocket_record record; /* Its number, its origin and its last accepted report. */
+    uint32_t tally;                   /* How often its number was refused with 14 since it joined, up to the limit. */
 };
 
 /* A reading of both of the sender's clocks at one moment. */
@@ -286,7 +306,7 @@ struct prunepocket_target {
 };
 
 /*
- * A member table of 3,608 bytes. Its fields are the table's own: C passes the
+ * A member table of 4,120 bytes. Its fields are the table's own: C passes the
  * struct from call to call and does not look inside. prunepocket_count_members
  * and prunepocket_member_at say what it holds.
  */
@@ -295,13 +315,17 @@ struct prunepocket_table {
     uint32_t media;                                        /* The media source that it was opened for. */
     uint32_t rate;                                         /* The clock rate that it was opened for. */
     uint64_t held;                                         /* The places held, the first as the lowest bit. */
-    struct prunepocket_record members[PRUNEPOCKET_PLACES]; /* The member at each place held; at others, anything. */
+    struct prunepocket_member members[PRUNEPOCKET_PLACES]; /* The member at each place held; at others, anything. */
 };
 
-/* What opening, a report, a farewell and a sweep answer. */
+/*
+ * What opening, a report, a farewell and a sweep answer. The table afterwards is
+ * after 12 none, after 14 the one passed but for the holder's tally, and after
+ * any other refusal equal to the one passed.
+ */
 struct prunepocket_answered {
     uint64_t number;                /* The refusal's number, or 0 that there is none. */
-    struct prunepocket_table table; /* The table afterwards: after a refusal equal to the one passed, after 12 none. */
+    struct prunepocket_table table; /* The table afterwards. */
 };
 
 /* What taking a whole datagram answers. */
@@ -315,7 +339,7 @@ struct prunepocket_datagram_answered {
 /* What stands at a place. */
 struct prunepocket_place {
     uint32_t held;                    /* 1 where a member stands there, else 0. */
-    struct prunepocket_record member; /* The member with its last accepted report, or zeros where there is none. */
+    struct prunepocket_member member; /* The member with its tally, or zeros where there is none. */
 };
 
 /* What choosing answers. */
@@ -336,14 +360,16 @@ struct prunepocket_answered prunepocket_open(uint32_t group, uint32_t media, uin
 /*
  * Takes a report that arrived at the sender's reading. Accepted, it replaces the
  * member's report before, also where its received time is earlier, and the
- * member keeps its place; a new member takes the lowest free place. Every other
- * place is as before.
+ * member keeps its place and its tally; a new member takes the lowest free place,
+ * with a tally of 0. Every other place is as before.
  * Refusals, in this order: 13 where group or media source are not the table's;
- * 14 where another origin holds the source number; 15 where it was received
- * after the reading, or more than 30 s before it; 16 where its RTP time is after
- * the reading's, or more than 60 seconds of media clock before it; 17 where P is
- * 1 and it is presented more than 30 s after it was received, or at the full
- * time 0; 18 where it is a new member's and all places are held. All times wrap.
+ * 14 where another origin holds the source number, and the tally of the member
+ * that holds it is one higher, up to PRUNEPOCKET_TALLY_LIMIT; 15 where it was
+ * received after the reading, or more than 30 s before it; 16 where its RTP time
+ * is after the reading's, or more than 60 seconds of media clock before it; 17
+ * where P is 1 and it is presented more than 30 s after it was received, or at the
+ * full time 0; 18 where it is a new member's and all places are held. All times
+ * wrap.
  * Where P is 1, presented is bits 16 to 47 of a full time, the number of a slot
  * of 2^-16 s. It stands for the start of the next slot of that number after
  * received; where received itself lies in a slot of that number, as at a wired
@@ -355,15 +381,17 @@ struct prunepocket_answered prunepocket_report(struct prunepocket_table table,
 
 /*
  * Takes a farewell of a source number: the member is removed if this origin
- * holds the number.
- * Refusals: 19 where no member has the number; 14 where another origin holds it.
+ * holds the number, and its tally goes with it.
+ * Refusals: 19 where no member has the number; 14 where another origin holds it,
+ * and the tally of the member that holds it is one higher, up to
+ * PRUNEPOCKET_TALLY_LIMIT.
  */
 struct prunepocket_answered prunepocket_farewell(struct prunepocket_table table, uint32_t source,
                                                  struct prunepocket_origin origin);
 
 /*
- * Removes every member that is not fresh at the reading: 15 or 16 would be
- * given there for the report that it stands on.
+ * Removes every member that is not fresh at the reading, and its tally with it:
+ * 15 or 16 would be given there for the report that it stands on.
  * Refusals: none, the number is 0.
  */
 struct prunepocket_answered prunepocket_sweep(struct prunepocket_table table,
@@ -395,7 +423,8 @@ struct prunepocket_datagram_answered prunepocket_take_datagram(struct prunepocke
 uint32_t prunepocket_count_members(struct prunepocket_table table);
 
 /*
- * Answers who stands at a place, from 0 to 63. No member stands at any other.
+ * Answers who stands at a place, from 0 to 63, with its tally. No member stands
+ * at any other.
  * Refusals: none, held is 0 where no member stands there.
  */
 struct prunepocket_place prunepocket_member_at(struct prunepocket_table table, size_t place);

@@ -1,7 +1,8 @@
 //! The archive, called and answering as the peer is and does.
 
 use crate::peer_table;
-use prunepocket_sys::{self as sys, Record, Refusal, ReportFields, ReportMessage, SettingsMessage};
+use prunepocket_sys::{self as sys, Member, Record, Refusal, ReportFields};
+use prunepocket_sys::{ReportMessage, SettingsMessage};
 
 /// How many items a datagram has.
 pub fn count_items(datagram: &[u8], reduced_size: bool) -> Result<u64, Refusal> {
@@ -46,6 +47,15 @@ impl From<&peer_table::Record> for Record {
                 payload_type: report.payload_type,
                 p: u8::from(report.p),
             },
+        }
+    }
+}
+
+impl From<&peer_table::Member> for Member {
+    fn from(member: &peer_table::Member) -> Self {
+        Member {
+            record: Record::from(&member.record),
+            tally: member.tally,
         }
     }
 }

@@ -33,23 +33,34 @@ pub struct Record {
     pub report: Report,
 }
 
+/// A member: the record that it stands on, and how often its number was refused with
+/// 14 since it joined.
+#[derive(Clone, Copy, PartialEq, Eq, Debug)]
+pub struct Member {
+    pub record: Record,
+    pub tally: u32,
+}
+
 /// What stands in a place before its first member.
-const BLANK: Record = Record {
-    source: 0,
-    origin: Origin {
-        address: [0; 16],
-        port: 0,
+const BLANK: Member = Member {
+    record: Record {
+        source: 0,
+        origin: Origin {
+            address: [0; 16],
+            port: 0,
+        },
+        report: Report {
+            sender: 0,
+            payload_type: 0,
+            p: false,
+            group: 0,
+            media: 0,
+            received: 0,
+            rtp: 0,
+            presented: 0,
+        },
     },
-    report: Report {
-        sender: 0,
-        payload_type: 0,
-        p: false,
-        group: 0,
-        media: 0,
-        received: 0,
-        rtp: 0,
-        presented: 0,
-    },
+    tally: 0,
 };
 
 /// The places whose bits are set in a word, lowest first.
@@ -151,7 +162,7 @@ pub struct Table {
     media: u32,
     rate: u32,
     held: u64,
-    places: [Record; PLACES],
+    places: [Member; PLACES],
 }
 
 impl Table {
@@ -177,12 +188,15 @@ impl Table {
         report.check_received(reading)?;
         report.check_rtp(reading, self.rate)?;
         report.check_presentation()?;
-        let place = match own {
-            Some(place) => place,
-            None => self.free_place()?,
-        };
-        self.places[place] = *record;
-        self.held |= 1 << place;
+        match own {
+            Some(place) => self.places[place].record = *record,
+            None => {
+                let place = self.free_place()?;
+                let (record, tally) = (*record, 0);
+                self.places[place] = Member { record, tally };
+                self.held |= 1 << place;
+            }
+        }
         Ok(())
     }
 
@@ -223,7 +237,7 @@ impl Table {
     }
 
     /// The member at a place; none where the place is free or not below 64.
-    pub fn member_at(&self, place: usize) -> Option<&Record> {
+    pub fn member_at(&self, place: usize) -> Option<&Member> {
         if place < PLACES && (self.held >> place) & 1 == 1 {
             Some(&self.places[place])
         } else {
@@ -240,10 +254,15 @@ impl Table {
         }
     }
 
-    /// The place that holds the number, if any; 14 where another origin holds it.
-    fn held_by(&self, source: u32, origin: &Origin) -> Result<Option<usize>, u64> {
-        match Ones(self.held).find(|&place| self.places[place].source == source) {
-            Some(place) if self.places[place].origin != *origin => Err(14),
+    /// The place that holds the number, if any; 14 where another origin holds it, whose
+    /// tally is then one more, up to the greatest.
+    fn held_by(&mut self, source: u32, origin: &Origin) -> Result<Option<usize>, u64> {
+        match Ones(self.held).find(|&place| self.places[place].record.source == source) {
+            Some(place) if self.places[place].record.origin != *origin => {
+                let tally = &mut self.places[place].tally;
+                *tally = tally.saturating_add(1);
+                Err(14)
+            }
             own => Ok(own),
         }
     }
@@ -271,7 +290,7 @@ impl Table {
     /// Of these places, those whose report meets the condition.
     fn select(&self, among: u64, meets: impl Fn(&Report) -> bool) -> u64 {
         Ones(among).fold(0, |word, place| {
-            word | (u64::from(meets(&self.places[place].report)) << place)
+            word | (u64::from(meets(&self.places[place].record.report)) << place)
         })
     }
 
@@ -279,7 +298,7 @@ impl Table {
     fn latest(&self, among: u64, arrival: bool, reading: &Reading) -> Option<&Record> {
         let mut best: Option<(i64, &Record)> = None;
         for place in Ones(among) {
-            let member = &self.places[place];
+            let member = &self.places[place].record;
             let delay = if arrival { 0 } else { member.report.delay() };
             let lateness = member.report.lateness(delay, reading, self.rate);
             let later = match best {

@@ -3,7 +3,7 @@
 
 use crate::interleaved;
 use crate::peer_table as peer;
-use prunepocket_sys::{Origin, Reading, Record, Table};
+use prunepocket_sys::{Member, Origin, Reading, Record, Table};
 use std::hint::black_box;
 
 const SECOND: u64 = 1 << 32;
@@ -39,6 +39,13 @@ fn record(source: u32) -> peer::Record {
 fn wired_record(source: u32) -> peer::Record {
     let mut record = record(source);
     record.report.presented = (record.report.received >> 16) as u32;
+    record
+}
+
+/// The same from another origin: a twin of the source.
+fn twin_record(source: u32) -> peer::Record {
+    let mut record = record(source);
+    record.origin.port += 1;
     record
 }
 
@@ -86,8 +93,8 @@ impl Pair {
         assert_eq!(self.ours.count_members(), self.peers.count());
         for place in 0..64 {
             let ours = self.ours.member_at(place);
-            let peers = self.peers.member_at(place).map(|member| member.source);
-            assert_eq!((ours.held == 1).then_some(ours.member.source), peers);
+            let peers = self.peers.member_at(place).map(Member::from);
+            assert_eq!((ours.held == 1).then_some(ours.member), peers);
         }
     }
 }
@@ -115,6 +122,14 @@ fn time_refused_report(members: u32) -> (f64, f64) {
     let mut pair = Pair::with(members);
     assert_eq!(pair.report(&surplus, &READING), 18);
     time_one_report(pair, &surplus)
+}
+
+/// A report of the last member's twin: 14, and its tally is one more.
+fn time_twin_report(members: u32) -> (f64, f64) {
+    let twin = twin_record(members);
+    let mut pair = Pair::with(members);
+    assert_eq!(pair.report(&twin, &READING), 14);
+    time_one_report(pair, &twin)
 }
 
 fn time_one_report(pair: Pair, sent: &peer::Record) -> (f64, f64) {
@@ -166,25 +181,39 @@ fn time_new_member(members: u32) -> (f64, f64) {
     )
 }
 
-/// A farewell of the last member from another origin: 14, or 19 without members.
-fn time_refused_farewell(members: u32) -> (f64, f64) {
+/// A farewell of a number that no member has: 19.
+fn time_unheld_farewell(members: u32) -> (f64, f64) {
+    let unheld = record(members + 1);
+    let mut pair = Pair::with(members);
+    assert_eq!(pair.farewell(&unheld), 19);
+    time_one_farewell(pair, &unheld)
+}
+
+/// A farewell of the last member's twin: 14, and its tally is one more.
+fn time_twin_farewell(members: u32) -> (f64, f64) {
+    let twin = twin_record(members);
+    let mut pair = Pair::with(members);
+    assert_eq!(pair.farewell(&twin), 14);
+    time_one_farewell(pair, &twin)
+}
+
+/// The source of this record, from its origin.
+fn time_one_farewell(pair: Pair, sent: &peer::Record) -> (f64, f64) {
     let Pair {
         mut ours,
         mut peers,
-    } = Pair::with(members);
-    let mut elsewhere = record(members).origin;
-    elsewhere.port += 1;
+    } = pair;
+    let (source, origin) = (sent.source, sent.origin);
     interleaved(
         1,
         || {
-            let answer = ours.farewell(members, &elsewhere);
+            let answer = ours.farewell(source, &origin);
             ours = answer.table;
             black_box(answer.number);
         },
         || {
-            let _ = black_box(
-                black_box(&mut peers).farewell(black_box(members), black_box(&elsewhere)),
-            );
+            let _ =
+                black_box(black_box(&mut peers).farewell(black_box(source), black_box(&origin)));
         },
     )
 }
@@ -244,13 +273,18 @@ const ANY: &[u32] = &[0, 1, 32, 64];
 /// From no member to a single free place.
 const WITH_ROOM: &[u32] = &[0, 1, 32, 63];
 
-const CALLS: [Row; 8] = [
+/// From one member to a full table.
+const WITH_MEMBERS: &[u32] = &[1, 32, 64];
+
+const CALLS: [Row; 10] = [
     ("copy of the table", time_copy, ANY),
     ("report", time_report, ANY),
     ("report, wired", time_wired_report, ANY),
     ("report, new, then farewell", time_new_member, WITH_ROOM),
     ("report, new, refused", time_refused_report, &[64]),
-    ("farewell, refused", time_refused_farewell, ANY),
+    ("report, twin, refused", time_twin_report, WITH_MEMBERS),
+    ("farewell, unheld, refused", time_unheld_farewell, ANY),
+    ("farewell, twin, refused", time_twin_farewell, WITH_MEMBERS),
     ("sweep", time_sweep, ANY),
     ("choose", time_choose, ANY),
 ];

@@ -13,6 +13,6 @@ pub use messages::{
     write_sync_group, Refusal, ReportMessage, SettingsMessage,
 };
 pub use structs::{
-    layout, Answer, Answered, DatagramAnswered, Followed, Origin, Place, Reading, Record,
-    ReportFields, Table, Target, PLACES,
+    layout, Answer, Answered, DatagramAnswered, Followed, Member, Origin, Place, Reading, Record,
+    ReportFields, Table, Target, PLACES, TALLY_LIMIT,
 };

@@ -6,6 +6,9 @@ use std::mem::{align_of, offset_of, size_of};
 /// Places in a table.
 pub const PLACES: usize = 64;
 
+/// Where a member's tally stops.
+pub const TALLY_LIMIT: u32 = 4_294_967_295;
+
 /// Declares each struct in C's layout, and the lines of `layout`.
 macro_rules! c_structs {
     ($(
@@ -67,12 +70,21 @@ c_structs! {
         pub p: u8,
     }
 
-    /// The source number, the origin and the report of a member.
+    /// A report under its source number and its origin.
     #[derive(Default)]
     pub struct Record {
         pub source: u32,
         pub origin: Origin,
         pub report: ReportFields,
+    }
+
+    /// A member: the record that it stands on, and its tally.
+    #[derive(Default)]
+    pub struct Member {
+        pub record: Record,
+        /// How often its number was refused with 14 since it joined, up to
+        /// `TALLY_LIMIT`.
+        pub tally: u32,
     }
 
     /// The sender's reading: NTP time N and RTP time R.
@@ -102,7 +114,7 @@ c_structs! {
         pub rate: u32,
         /// Marks the places held, from the lowest bit.
         pub held: u64,
-        pub members: [Record; PLACES],
+        pub members: [Member; PLACES],
     }
 
     /// What opening, a report, a farewell and a sweep answer.
@@ -121,11 +133,11 @@ c_structs! {
         pub table: Table,
     }
 
-    /// The member where `held` is 1; a record of zeros where it is 0.
+    /// The member where `held` is 1; zeros where it is 0.
     #[derive(Default)]
     pub struct Place {
         pub held: u32,
-        pub member: Record,
+        pub member: Member,
     }
 
     /// What choosing answers.

@@ -11,6 +11,7 @@
 
 typedef struct prunepocket_origin origin_t;
 typedef struct prunepocket_record record_t;
+typedef struct prunepocket_member member_t;
 typedef struct prunepocket_reading reading_t;
 typedef struct prunepocket_target target_t;
 typedef struct prunepocket_table table_t;

@@ -485,24 +485,48 @@ static void step_place(void)
     if (is_free)
         return;
     origin = origin_of(due[1]);
-    check_equal("source", place.member.source, number(due[0]));
-    check_true("origin", memcmp(&place.member.origin, &origin, sizeof origin) == 0);
+    check_equal("source", place.member.record.source, number(due[0]));
+    check_true("origin", memcmp(&place.member.record.origin, &origin, sizeof origin) == 0);
 }
 
-static void step_unchanged(void)
+static void step_tally(void)
+{
+    check_number(prunepocket_member_at(bench.table, number(asked[0])).member.tally);
+}
+
+/* Members and target are as before the last call, but that one place, or none, has this tally. */
+static void check_unchanged(size_t raised, uint32_t tally)
 {
     target_t now = prunepocket_choose(bench.table, bench.reading).target;
     target_t then = prunepocket_choose(bench.before, bench.reading).target;
 
-    due_words(0);
     for (size_t i = 0; i < PRUNEPOCKET_PLACES; i++) {
         place_t place = prunepocket_member_at(bench.table, i);
         place_t before = prunepocket_member_at(bench.before, i);
 
+        if (i == raised)
+            before.member.tally = tally;
         check_equal("held", place.held, before.held);
-        check_true("member", same_record(&place.member, &before.member));
+        check_true("record", same_record(&place.member.record, &before.member.record));
+        check_equal("tally", place.member.tally, before.member.tally);
     }
     check_true("target", same_target(&now, &then));
+}
+
+static void step_unchanged(void)
+{
+    due_words(0);
+    check_unchanged(PRUNEPOCKET_PLACES, 0);
+}
+
+static void step_unchanged_but_tally(void)
+{
+    uint32_t place = number(asked[0]);
+
+    if (place >= PRUNEPOCKET_PLACES)
+        not_understood(asked[0]);
+    due_words(1);
+    check_unchanged(place, number(due[0]));
 }
 
 static void step_write_report(void)
@@ -590,6 +614,8 @@ static const struct step {
     {"delay", 0, step_delay},
     {"members", 0, step_members},
     {"place", 1, step_place},
+    {"tally", 1, step_tally},
+    {"unchanged but tally", 1, step_unchanged_but_tally}, /* before the shorter name */
     {"unchanged", 0, step_unchanged},
     {"write report", 0, step_write_report},
     {"write settings", 1, step_write_settings},

@@ -1,8 +1,9 @@
 /*
  * Calls every function of the member table in prunepocket.h. Holds each struct of C to the bytes
- * that the archive writes, answers to what documents 01 and 02 (E3, E4) say at the limits, and each
- * table after a refusal to the one before, field by field, padding aside. The table's own fields
- * are looked at here alone: a host does not. The papers' cases are in test_scenes.c.
+ * that the archive writes, answers to what documents 01 and 02 (E3, E4, E5) say at the limits, and
+ * each table after a refusal to the one before, but for the holder's tally after 14, field by field,
+ * padding aside. The table's own fields are looked at here alone: a host does not. The papers' cases
+ * are in test_scenes.c.
  */
 #include "members.h"
 
@@ -102,10 +103,15 @@ static uint64_t word_with(size_t lowest, uint64_t above)
 
 /* ---- Equality, padding aside ----------------------------------------------------------------- */
 
+static int same_member(const member_t *a, const member_t *b)
+{
+    return same_record(&a->record, &b->record) && SAME(tally);
+}
+
 static int same_table(const table_t *a, const table_t *b)
 {
     for (size_t i = 0; i < PRUNEPOCKET_PLACES; i++) {
-        if (!same_record(&a->members[i], &b->members[i]))
+        if (!same_member(&a->members[i], &b->members[i]))
             return 0;
     }
     return SAME(group) && SAME(media) && SAME(rate) && SAME(held);
@@ -129,6 +135,33 @@ static table_t opened(void)
     return open_table(GROUP, MEDIA, RATE);
 }
 
+/* The place of a number's member, or PRUNEPOCKET_PLACES where it has none. */
+static size_t place_of(const table_t *table, uint32_t source)
+{
+    size_t place = 0;
+
+    while (place < PRUNEPOCKET_PLACES &&
+           !(is_held(table->held, place) && table->members[place].record.source == source))
+        place++;
+    return place;
+}
+
+static uint32_t one_more(uint32_t tally)
+{
+    return tally == PRUNEPOCKET_TALLY_LIMIT ? tally : tally + 1;
+}
+
+/* Refused under a number: the table is as before, but that 14 raises the tally of its holder. */
+static void check_refused(const char *what, const answered_t *answered, table_t table,
+                          uint32_t source)
+{
+    size_t holder = place_of(&table, source);
+
+    if (answered->number == PRUNEPOCKET_OTHER_ORIGIN && holder < PRUNEPOCKET_PLACES)
+        table.members[holder].tally = one_more(table.members[holder].tally);
+    check_true(what, same_table(&answered->table, &table));
+}
+
 /* The table after a report, which gets this number. */
 static table_t report(table_t table, record_t record, reading_t reading, uint64_t number)
 {
@@ -136,7 +169,7 @@ static table_t report(table_t table, record_t record, reading_t reading, uint64_
 
     check_equal("report: number", answered.number, number);
     if (number != PRUNEPOCKET_ACCEPTED)
-        check_true("report: the table as before", same_table(&answered.table, &table));
+        check_refused("report: the table after a refusal", &answered, table, record.source);
     return answered.table;
 }
 
@@ -148,7 +181,7 @@ static table_t farewell(table_t table, uint32_t source, origin_t origin, uint64_
 
     check_equal("farewell: number", answered.number, number);
     if (number != PRUNEPOCKET_ACCEPTED)
-        check_true("farewell: the table as before", same_table(&answered.table, &table));
+        check_refused("farewell: the table after a refusal", &answered, table, source);
     else
         check_equal("farewell: members", prunepocket_count_members(answered.table), before - 1);
     return answered.table;
@@ -164,19 +197,28 @@ static table_t sweep(table_t table, reading_t reading, uint32_t members)
     return answered.table;
 }
 
-/* A place is held by a member that stands on this record, or where that is null, not held. */
-static void check_at(const table_t *table, size_t place, const record_t *record)
+/* A place is held by this member, or where that is null, not held: then all of it is zeros. */
+static void check_at(const table_t *table, size_t place, const member_t *member)
 {
-    static const record_t zeros;
+    static const member_t zeros;
+    const member_t *expected = member != NULL ? member : &zeros;
     place_t at = prunepocket_member_at(*table, place);
 
-    check_equal("member_at: held", at.held, record != NULL);
-    check_true("member_at: member", same_record(&at.member, record != NULL ? record : &zeros));
+    check_equal("member_at: held", at.held, member != NULL);
+    check_true("member_at: record", same_record(&at.member.record, &expected->record));
+    check_equal("member_at: tally", at.member.tally, expected->tally);
 }
 
+/* A member of this tally stands on the record. */
+static void check_tallied(table_t table, size_t place, record_t record, uint32_t tally)
+{
+    check_at(&table, place, &(member_t){record, tally});
+}
+
+/* No twin was met. */
 static void check_member(table_t table, size_t place, record_t record)
 {
-    check_at(&table, place, &record);
+    check_tallied(table, place, record, 0);
 }
 
 static void check_vacant(table_t table, size_t place)
@@ -198,8 +240,8 @@ static void check_places(const table_t *table, const table_t *expected)
 }
 
 /*
- * What a new member's report got that meets none of 13 to 17: the lowest free place, or 18 where
- * none is free. All else in the table is as before.
+ * What a new member's report got that meets none of 13 to 17: the lowest free place, with a tally of
+ * 0 whatever stood there, or 18 where none is free. All else in the table is as before.
  */
 static void check_new_member(const answered_t *answered, table_t table, record_t record)
 {
@@ -209,7 +251,7 @@ static void check_new_member(const answered_t *answered, table_t table, record_t
     if (place < PRUNEPOCKET_PLACES) {
         number = PRUNEPOCKET_ACCEPTED;
         table.held = with_place(table.held, place);
-        table.members[place] = record;
+        table.members[place] = (member_t){record, 0};
     }
     check_equal("new member: number", answered->number, number);
     check_equal("new member: places held", answered->table.held, table.held);
@@ -281,6 +323,11 @@ static void test_small_layouts(void)
     FIELD(record_t, origin, 4, 18);
     FIELD(record_t, report, 24, 32);
 
+    CASE("layout of a member");
+    SIZE(member_t, 64);
+    FIELD(member_t, record, 0, 56);
+    FIELD(member_t, tally, 56, 4);
+
     CASE("layout of a reading");
     SIZE(reading_t, 16);
     FIELD(reading_t, ntp, 0, 8);
@@ -300,32 +347,32 @@ static void test_large_layouts(void)
     FIELD(target_t, counted, 40, 4);
 
     CASE("layout of a table");
-    SIZE(table_t, 3608);
+    SIZE(table_t, 4120);
     FIELD(table_t, group, 0, 4);
     FIELD(table_t, media, 4, 4);
     FIELD(table_t, rate, 8, 4);
     FIELD(table_t, held, 16, 8);
-    FIELD(table_t, members, 24, 64 * 56);
+    FIELD(table_t, members, 24, 64 * 64);
 }
 
 static void test_answer_layouts(void)
 {
     CASE("layout of the answers");
-    SIZE(answered_t, 3616);
+    SIZE(answered_t, 4128);
     FIELD(answered_t, number, 0, 8);
-    FIELD(answered_t, table, 8, 3608);
-    SIZE(datagram_answered_t, 3632);
+    FIELD(answered_t, table, 8, 4120);
+    SIZE(datagram_answered_t, 4144);
     FIELD(datagram_answered_t, number, 0, 8);
     FIELD(datagram_answered_t, place, 8, 8);
     FIELD(datagram_answered_t, count, 16, 8);
-    FIELD(datagram_answered_t, table, 24, 3608);
-    SIZE(place_t, 64);
+    FIELD(datagram_answered_t, table, 24, 4120);
+    SIZE(place_t, 72);
     FIELD(place_t, held, 0, 4);
-    FIELD(place_t, member, 8, 56);
-    SIZE(followed_t, 3664);
+    FIELD(place_t, member, 8, 64);
+    SIZE(followed_t, 4176);
     FIELD(followed_t, number, 0, 8);
     FIELD(followed_t, target, 8, 48);
-    FIELD(followed_t, table, 56, 3608);
+    FIELD(followed_t, table, 56, 4120);
 }
 
 /* ---- The archive's bytes --------------------------------------------------------------------- */
@@ -444,6 +491,33 @@ static void test_filed_bytes(void)
     free(answered);
 }
 
+/* Behind the record of 56 bytes: the archive's own number, and one whose bytes differ. */
+static void test_tally_bytes(void)
+{
+    record_t twin = distinct;
+    answered_t *answered = allocate(sizeof *answered);
+    place_t *place = allocate(sizeof *place);
+    table_t table;
+
+    CASE("bytes of a tally");
+    table = open_table(0x40414243, 0x50515253, 0x15F90);
+    table = report(table, distinct, distinct_reading, PRUNEPOCKET_ACCEPTED);
+    check_equal("tally of a new member", number_at(&table, 24 + 56, 4), 0);
+    twin.origin.port ^= 1;
+    *answered = prunepocket_report(table, twin, distinct_reading);
+    check_equal("number", number_at(answered, 0, 8), 14);
+    CHECK_PARTS("record in the table", answered, 8 + 24, record_parts);
+    check_equal("tally in the table", number_at(answered, 8 + 24 + 56, 4), 1);
+    table.members[0].tally = 0x8182838F;
+    *answered = prunepocket_report(table, twin, distinct_reading);
+    check_equal("tally in the table", number_at(answered, 8 + 24 + 56, 4), 0x81828390);
+    *place = prunepocket_member_at(answered->table, 0);
+    CHECK_PARTS("member", place, 8, record_parts);
+    check_equal("tally of the place", number_at(place, 8 + 56, 4), 0x81828390);
+    free(place);
+    free(answered);
+}
+
 static void test_followed_bytes(void)
 {
     followed_t *followed = allocate(sizeof *followed);
@@ -488,18 +562,20 @@ static record_t twin_at(origin_t origin)
     return twin;
 }
 
-/* The twin's report and farewell get 14, and the target is unchanged. */
+/* The twin's report and farewell get 14, the target is unchanged, and the holder's tally is 2. */
 static void check_twin(table_t table, origin_t origin)
 {
     table_t after = report(table, twin_at(origin), now, PRUNEPOCKET_OTHER_ORIGIN);
 
     check_target(choose(after, now), target_20);
+    check_tallied(after, 0, record_10(), 1);
     after = farewell(after, 10, origin, PRUNEPOCKET_OTHER_ORIGIN);
     check_target(choose(after, now), target_20);
-    check_member(after, 0, record_10());
+    check_tallied(after, 0, record_10(), 2);
     check_member(after, 1, record_20());
     check_equal("members", prunepocket_count_members(after), 2);
-    check_true("the table as before the twin", same_table(&after, &table));
+    table.members[0].tally = 2;
+    check_true("all else as before the twin", same_table(&after, &table));
 }
 
 /* Each of the 144 bits of an origin counts. */
@@ -527,6 +603,7 @@ static void test_two_numbers(void)
     CASE("one origin holds two numbers");
     table = with_two(record_10(), record_20());
     table = report(table, arrival(20), now, PRUNEPOCKET_OTHER_ORIGIN);
+    check_tallied(table, 1, record_20(), 1);
     table = report(table, arrival(30), now, PRUNEPOCKET_ACCEPTED);
     table = report(table, arrival(31), now, PRUNEPOCKET_ACCEPTED);
     check_equal("members", prunepocket_count_members(table), 4);
@@ -556,7 +633,8 @@ static void test_full_table(void)
     table = full_table();
     for (uint32_t i = 0; i < PRUNEPOCKET_PLACES; i++) {
         check_member(table, i, arrival(100 + i));
-        check_equal("source in the table", number_at(&table, 24 + 56 * i, 4), 100 + i);
+        check_equal("source in the table", number_at(&table, 24 + 64 * i, 4), 100 + i);
+        check_equal("tally in the table", number_at(&table, 24 + 64 * i + 56, 4), 0);
     }
     check_chosen(table, now, 100, 64);
     report(table, record_10(), now, PRUNEPOCKET_NO_ROOM);
@@ -877,7 +955,10 @@ static void check_taken(const uint8_t *datagram, size_t length, uint32_t reduced
 
     CASE("numbers that another origin holds");
     table = with_two(twin_at(unit(11)), arrival(30));
-    take(table, datagram, length, reduced_size, DATAGRAM_CALLS, none, again, 4);
+    table = take(table, datagram, length, reduced_size, DATAGRAM_CALLS, none, again, 4);
+    check_tallied(table, 0, twin_at(unit(11)), 1);
+    check_tallied(table, 1, arrival(30), 1);
+    check_equal("members", prunepocket_count_members(table), 2);
 }
 
 /* Without the RR in front, the datagram is accepted where reduced size was agreed. */
@@ -1407,7 +1488,7 @@ static void check_host(size_t front, uint32_t reduced_size)
 
     CASE("a BYE with both sources, from the second unit");
     table = take_datagram(table, bye + front, sizeof bye - front, reduced_size, unit(20));
-    check_member(table, 0, record_10());
+    check_tallied(table, 0, record_10(), 1);
     check_vacant(table, 1);
 }
 
@@ -1453,7 +1534,15 @@ static table_t table_of(uint64_t word)
 
     table.held = word;
     for (uint32_t i = 0; i < PRUNEPOCKET_PLACES; i++)
-        table.members[i] = arrival(100 + i);
+        table.members[i] = (member_t){arrival(100 + i), 0};
+    return table;
+}
+
+/* C writes a tally at every place, held or not: from place to place there is a step between them. */
+static table_t with_tallies(table_t table, uint32_t first, uint32_t step)
+{
+    for (uint32_t i = 0; i < PRUNEPOCKET_PLACES; i++)
+        table.members[i].tally = first + i * step;
     return table;
 }
 
@@ -1466,7 +1555,7 @@ static const char *word_name(uint64_t word)
     return text;
 }
 
-/* C writes the word, and a new member reports. */
+/* C writes the word and tallies, and a new member reports. */
 static void check_written(size_t lowest, uint64_t above)
 {
     uint64_t word = word_with(lowest, above);
@@ -1474,7 +1563,7 @@ static void check_written(size_t lowest, uint64_t above)
     answered_t answered;
 
     CASE(word_name(word));
-    table = table_of(word);
+    table = with_tallies(table_of(word), 1, 3);
     check_equal("lowest free place", lowest_free(word), lowest);
     check_places(&table, &table);
     answered = prunepocket_report(table, record_10(), now);
@@ -1509,7 +1598,7 @@ static void check_called(const table_t *full, size_t lowest, uint64_t above)
         table = report(table, arrival(source), now, PRUNEPOCKET_ACCEPTED);
         check_member(table, place, arrival(source));
         expected.held = with_place(expected.held, place);
-        expected.members[place] = arrival(source);
+        expected.members[place].record = arrival(source);
     }
     check_places(&table, &expected);
     report(table, arrival(last), now, PRUNEPOCKET_NO_ROOM);
@@ -1577,10 +1666,437 @@ static void test_own_reports(void)
         table_t after;
 
         record.report.received -= 1;
-        expected.members[i] = record;
+        expected.members[i].record = record;
         after = report(table, record, now, PRUNEPOCKET_ACCEPTED);
         check_true("the report stands at the member's place", same_table(&after, &expected));
     }
+}
+
+/* ---- Tallies --------------------------------------------------------------------------------- */
+
+#define LIMIT PRUNEPOCKET_TALLY_LIMIT
+
+/* A report of the member at a place of full_table and of table_of, and of its twin. */
+static record_t own_at(uint32_t place)
+{
+    return arrival(100 + place);
+}
+
+static record_t other_at(uint32_t place)
+{
+    record_t twin = own_at(place);
+
+    twin.origin = unit(31);
+    return twin;
+}
+
+/* The table after so many calls of the twin of the member at a place, farewells in every second. */
+static table_t meet_twin(table_t table, uint32_t place, uint32_t calls)
+{
+    for (uint32_t i = 0; i < calls; i++) {
+        if (i % 2 == 0)
+            table = report(table, other_at(place), now, PRUNEPOCKET_OTHER_ORIGIN);
+        else
+            table = farewell(table, 100 + place, unit(31), PRUNEPOCKET_OTHER_ORIGIN);
+    }
+    return table;
+}
+
+/* 13, 15, 16 and 17 of the member at a place, and 13 of its twin: all fields are as before. */
+static void check_uncounted(table_t table, uint32_t place)
+{
+    record_t records[] = {own_at(place), other_at(place)};
+    record_t record = own_at(place);
+
+    for (size_t i = 0; i < LENGTH(records); i++) {
+        records[i].report.group = GROUP + 1;
+        report(table, records[i], now, PRUNEPOCKET_OTHER_STREAM);
+        records[i].report.group = GROUP;
+        records[i].report.media = MEDIA + 1;
+        report(table, records[i], now, PRUNEPOCKET_OTHER_STREAM);
+    }
+    record.report.received = now.ntp + 1;
+    report(table, record, now, PRUNEPOCKET_RECEIVED_FAR);
+    record.report.received = now.ntp - SECONDS(30) - 1;
+    report(table, record, now, PRUNEPOCKET_RECEIVED_FAR);
+    record.report.received = now.ntp;
+    record.report.rtp = now.rtp + 1;
+    report(table, record, now, PRUNEPOCKET_RTP_AGED);
+    record.report.rtp = now.rtp;
+    record.report.p = 1;
+    record.report.presented = (uint32_t)(now.ntp >> 16) + SHORT_SECONDS(30) + 1;
+    report(table, record, now, PRUNEPOCKET_BADLY_PRESENTED);
+}
+
+static void test_uncounted_refusals(void)
+{
+    static const uint32_t firsts[] = {0, 7, LIMIT - 63};
+    record_t foreign = own_at(0);
+
+    CASE("refusals other than 14, at every place");
+    for (size_t i = 0; i < LENGTH(firsts); i++) {
+        table_t table = with_tallies(full_table(), firsts[i], 1);
+
+        for (uint32_t place = 0; place < PRUNEPOCKET_PLACES; place++)
+            check_uncounted(table, place);
+        report(table, record_10(), now, PRUNEPOCKET_NO_ROOM);
+        farewell(table, 10, unit(30), PRUNEPOCKET_NO_MEMBER);
+        farewell(table, 164, unit(31), PRUNEPOCKET_NO_MEMBER);
+    }
+
+    CASE("13 and 19 of a number that left a tally at a free place");
+    foreign.report.group = GROUP + 1;
+    report(with_tallies(table_of(0), 1, 1), foreign, now, PRUNEPOCKET_OTHER_STREAM);
+    farewell(with_tallies(table_of(0), 1, 1), 100, unit(30), PRUNEPOCKET_NO_MEMBER);
+    farewell(with_tallies(table_of(0), 1, 1), 100, unit(31), PRUNEPOCKET_NO_MEMBER);
+}
+
+/* 14 comes before 15 to 18, and counts whatever else is wrong. */
+static void test_counted_refusals(void)
+{
+    table_t table;
+    record_t faulty = {163, unit(31), {SECONDS(1001), GROUP, MEDIA, 9000001, 0x04050001, 33, 1}};
+
+    CASE("a twin's report that would get 15, 16 and 17, where all places are held");
+    table = full_table();
+    table = report(table, faulty, now, PRUNEPOCKET_OTHER_ORIGIN);
+    check_tallied(table, 63, own_at(63), 1);
+    table = report(table, faulty, (reading_t){0, 0}, PRUNEPOCKET_OTHER_ORIGIN);
+    check_tallied(table, 63, own_at(63), 2);
+
+    CASE("a twin of a member that is not fresh");
+    table = report(with_one(record_10()), twin_at(unit(11)), (reading_t){SECONDS(1031), 11790000},
+                   PRUNEPOCKET_OTHER_ORIGIN);
+    check_tallied(table, 0, record_10(), 1);
+}
+
+/* Each tally is another: at each place the twin calls once more often than at the one before. */
+static void test_twins_at_every_place(void)
+{
+    table_t table;
+
+    CASE("two numbers with twins, at every two neighbouring places");
+    for (uint32_t place = 0; place < PRUNEPOCKET_PLACES; place++) {
+        uint32_t next = (place + 1) % PRUNEPOCKET_PLACES;
+        table_t expected = full_table();
+
+        table = meet_twin(meet_twin(expected, place, 2), next, 3);
+        expected.members[place].tally = 2;
+        expected.members[next].tally = 3;
+        check_places(&table, &expected);
+    }
+
+    CASE("every number has a twin");
+    table = full_table();
+    for (uint32_t place = 0; place < PRUNEPOCKET_PLACES; place++)
+        table = meet_twin(table, place, place + 1);
+    for (uint32_t place = 0; place < PRUNEPOCKET_PLACES; place++)
+        check_tallied(table, place, own_at(place), place + 1);
+}
+
+/* Nothing but the member's own leaving takes its tally. */
+static void test_kept_tallies(void)
+{
+    record_t later = record_10();
+    table_t table;
+
+    CASE("a tally stays through the member's own reports, accepted and refused");
+    table = with_two(record_10(), record_20());
+    table = report(table, twin_at(unit(11)), now, PRUNEPOCKET_OTHER_ORIGIN);
+    table = farewell(table, 10, unit(12), PRUNEPOCKET_OTHER_ORIGIN);
+    table = report(table, record_10(), now, PRUNEPOCKET_ACCEPTED);
+    check_tallied(table, 0, record_10(), 2);
+    later.report.received += 1;
+    table = report(table, later, now, PRUNEPOCKET_ACCEPTED);
+    check_tallied(table, 0, later, 2);
+    later.report.received = SECONDS(1001);
+    table = report(table, later, now, PRUNEPOCKET_RECEIVED_FAR);
+    table = report(table, record_10(), now, PRUNEPOCKET_ACCEPTED);
+    check_tallied(table, 0, record_10(), 2);
+
+    CASE("a tally stays through the reports and farewells of others");
+    table = report(table, arrival(30), now, PRUNEPOCKET_ACCEPTED);
+    table = farewell(table, 30, unit(30), PRUNEPOCKET_ACCEPTED);
+    check_tallied(table, 0, record_10(), 2);
+    check_member(table, 1, record_20());
+
+    CASE("a tally stays through sweeps that the member outlasts");
+    table = sweep(table, now, 2);
+    check_tallied(table, 0, record_10(), 2);
+    table = sweep(table, (reading_t){SECONDS(1029), 9000000}, 1);
+    check_tallied(table, 0, record_10(), 2);
+    table = report(table, twin_at(unit(11)), now, PRUNEPOCKET_OTHER_ORIGIN);
+    check_tallied(table, 0, record_10(), 3);
+}
+
+/* None of the members here is fresh at this reading. */
+static const reading_t all_swept = {SECONDS(1031), 9000000};
+
+/* The member at a place has left: it, its twin or source 10 joins, at the lowest free place. */
+static void check_joining_anew(table_t left, uint32_t place)
+{
+    table_t table;
+
+    check_vacant(left, place);
+    table = report(left, own_at(place), now, PRUNEPOCKET_ACCEPTED);
+    check_member(table, lowest_free(left.held), own_at(place));
+    table = report(left, other_at(place), now, PRUNEPOCKET_ACCEPTED);
+    check_member(table, lowest_free(left.held), other_at(place));
+    table = report(left, record_10(), now, PRUNEPOCKET_ACCEPTED);
+    check_member(table, lowest_free(left.held), record_10());
+}
+
+static void test_gone_tallies(void)
+{
+    table_t full;
+    table_t left;
+
+    CASE("a member leaves by farewell, and it, its twin or another joins at its place");
+    full = with_tallies(full_table(), LIMIT - 63, 1);
+    for (uint32_t place = 0; place < PRUNEPOCKET_PLACES; place++) {
+        left = farewell(full, 100 + place, unit(30), PRUNEPOCKET_ACCEPTED);
+        check_joining_anew(left, place);
+    }
+
+    CASE("all leave by farewell, and each comes back at place 0");
+    left = left_by_farewells(full, 0);
+    for (uint32_t place = 0; place < PRUNEPOCKET_PLACES; place++)
+        check_joining_anew(left, place);
+
+    CASE("all leave by a sweep, and each comes back at place 0");
+    left = sweep(full, all_swept, 0);
+    for (uint32_t place = 0; place < PRUNEPOCKET_PLACES; place++)
+        check_joining_anew(left, place);
+
+    CASE("a farewell and a sweep leave the other tallies");
+    left = farewell(full, 100, unit(30), PRUNEPOCKET_ACCEPTED);
+    full.held &= ~UINT64_C(1);
+    check_places(&left, &full);
+    left = report(left, record_10(), now, PRUNEPOCKET_ACCEPTED);
+    left = report(left, twin_at(unit(11)), now, PRUNEPOCKET_OTHER_ORIGIN);
+    left = sweep(left, (reading_t){SECONDS(999), 9000000}, 1);
+    check_tallied(left, 0, record_10(), 1);
+    check_vacant(left, 1);
+    check_vacant(left, 63);
+}
+
+/* By public calls alone. */
+static void test_joining_at_another_place(void)
+{
+    table_t table;
+
+    CASE("a member leaves, another takes its place, and it comes back to another place");
+    table = with_two(record_10(), record_20());
+    table = report(table, twin_at(unit(11)), now, PRUNEPOCKET_OTHER_ORIGIN);
+    table = farewell(table, 20, unit(21), PRUNEPOCKET_OTHER_ORIGIN);
+    table = farewell(table, 20, unit(21), PRUNEPOCKET_OTHER_ORIGIN);
+    table = farewell(table, 10, unit(10), PRUNEPOCKET_ACCEPTED);
+    check_vacant(table, 0);
+    table = report(table, arrival(30), now, PRUNEPOCKET_ACCEPTED);
+    check_member(table, 0, arrival(30));
+    table = report(table, record_10(), now, PRUNEPOCKET_ACCEPTED);
+    check_member(table, 2, record_10());
+    check_tallied(table, 1, record_20(), 2);
+
+    CASE("it leaves, and its twin joins: now the first unit is the twin");
+    table = farewell(table, 10, unit(10), PRUNEPOCKET_ACCEPTED);
+    table = report(table, twin_at(unit(11)), now, PRUNEPOCKET_ACCEPTED);
+    check_member(table, 2, twin_at(unit(11)));
+    table = report(table, record_10(), now, PRUNEPOCKET_OTHER_ORIGIN);
+    table = farewell(table, 10, unit(10), PRUNEPOCKET_OTHER_ORIGIN);
+    check_tallied(table, 2, twin_at(unit(11)), 2);
+    check_tallied(table, 1, record_20(), 2);
+    check_member(table, 0, arrival(30));
+
+    CASE("all are swept, and one joins anew");
+    table = sweep(table, all_swept, 0);
+    check_vacant(table, 1);
+    table = report(table, record_20(), now, PRUNEPOCKET_ACCEPTED);
+    check_member(table, 0, record_20());
+}
+
+static void test_tally_limit(void)
+{
+    static const uint32_t places[] = {0, 31, 63};
+    table_t full;
+
+    CASE("the limit of a tally");
+    check_equal("PRUNEPOCKET_TALLY_LIMIT", LIMIT, UINT64_C(4294967295));
+    full = full_table();
+    for (size_t i = 0; i < LENGTH(places); i++) {
+        uint32_t place = places[i];
+        table_t table = full;
+
+        table.members[place].tally = 4294967294;
+        check_tallied(report(table, other_at(place), now, PRUNEPOCKET_OTHER_ORIGIN), place,
+                      own_at(place), 4294967295);
+        check_tallied(farewell(table, 100 + place, unit(31), PRUNEPOCKET_OTHER_ORIGIN), place,
+                      own_at(place), 4294967295);
+        check_tallied(meet_twin(table, place, 4), place, own_at(place), 4294967295);
+        table.members[place].tally = 4294967295;
+        check_tallied(meet_twin(table, place, 1), place, own_at(place), 4294967295);
+        check_tallied(farewell(table, 100 + place, unit(31), PRUNEPOCKET_OTHER_ORIGIN), place,
+                      own_at(place), 4294967295);
+        check_tallied(report(table, own_at(place), now, PRUNEPOCKET_ACCEPTED), place,
+                      own_at(place), 4294967295);
+    }
+
+    CASE("each carry of a tally");
+    for (unsigned bits = 1; bits < 32; bits++) {
+        full.members[5].tally = (UINT32_C(1) << bits) - 1;
+        check_tallied(meet_twin(full, 5, 1), 5, own_at(5), UINT32_C(1) << bits);
+    }
+}
+
+/* Tables that differ in their tallies alone choose alike, and a sweep leaves the same members. */
+static void check_choice_alike(table_t table, reading_t reading, uint32_t first, uint32_t step)
+{
+    table_t other = with_tallies(table, first, step);
+    followed_t expected = prunepocket_choose(table, reading);
+    followed_t followed = prunepocket_choose(other, reading);
+
+    check_equal("choose: number", followed.number, expected.number);
+    check_true("choose: target", same_target(&followed.target, &expected.target));
+    check_true("choose: the table as before", same_table(&followed.table, &other));
+    check_equal("sweep: places held", prunepocket_sweep(other, reading).table.held,
+                prunepocket_sweep(table, reading).table.held);
+}
+
+static void test_choices_with_tallies(void)
+{
+    static const uint32_t steps[] = {0, 1, UINT32_MAX, UINT32_C(1) << 26, 0x9E3779B9};
+    table_t equals = full_table();
+    table_t pair = with_two(record_20(), wired(10));
+    table_t tie = with_two(arrival(30), arrival(29));
+
+    CASE("choosing does not look at tallies");
+    for (size_t i = 0; i < LENGTH(steps); i++) {
+        check_choice_alike(equals, now, LIMIT, steps[i]);
+        check_choice_alike(equals, now, 100, steps[i]);
+        check_choice_alike(equals, all_swept, 100, steps[i]);
+        check_choice_alike(pair, now, LIMIT, steps[i]);
+        check_choice_alike(tie, now, 1, steps[i]);
+        check_choice_alike(opened(), now, 1, steps[i]);
+    }
+    check_chosen(with_tallies(equals, 0, 1), now, 100, 64);
+    check_chosen(with_tallies(equals, 63, UINT32_MAX), now, 100, 64);
+    check_chosen(with_tallies(tie, 0, 1), now, 29, 2);
+    check_chosen(with_tallies(tie, 1, UINT32_MAX), now, 29, 2);
+    check_target(choose(with_tallies(pair, 0, 1), now), target_20);
+    check_target(choose(with_tallies(pair, 1, UINT32_MAX), now), target_20);
+}
+
+static void test_vacant_tallies(void)
+{
+    static const size_t behind[] = {64, 65, 127, 128, (size_t)1 << 32, SIZE_MAX};
+    table_t table;
+
+    CASE("a place without a member shows no tally, whatever stands in its memory");
+    table = with_tallies(table_of(UINT64_C(0x5555555555555555)), 1, 1);
+    for (uint32_t place = 0; place < PRUNEPOCKET_PLACES; place += 2) {
+        check_tallied(table, place, own_at(place), 1 + place);
+        check_vacant(table, place + 1);
+    }
+    table.held = UINT64_MAX;
+    for (size_t i = 0; i < LENGTH(behind); i++)
+        check_vacant(table, behind[i]);
+}
+
+/* ---- Tallies out of datagrams ---------------------------------------------------------------- */
+
+/* As many sources as a BYE can have. */
+#define BYE_SOURCES 31
+#define BYE_BYTES (4 + 4 * BYE_SOURCES)
+#define TWIN_CALLS (1 + BYE_SOURCES)
+#define TWIN_BYTES (RR_BYTES + PRUNEPOCKET_REPORT_BYTES + BYE_BYTES)
+
+/* An RR, the report of 10 and its farewell 31 times; or the farewells before the report. */
+static uint8_t *lend_twin_datagram(int farewells_first)
+{
+    static const uint8_t rr[RR_BYTES] = {0x80, 201, 0, 1, 0, 0, 0, 1};
+    static const uint8_t header[] = {0x80 | BYE_SOURCES, 203, 0, BYE_SOURCES};
+    uint8_t *datagram = allocate(TWIN_BYTES);
+    uint8_t *bye = datagram + RR_BYTES + (farewells_first ? 0 : PRUNEPOCKET_REPORT_BYTES);
+
+    memset(datagram, 0, TWIN_BYTES);
+    memcpy(datagram, rr, sizeof rr);
+    put_report(datagram + RR_BYTES + (farewells_first ? BYE_BYTES : 0), record_10());
+    memcpy(bye, header, sizeof header);
+    for (size_t i = 1; i <= BYE_SOURCES; i++)
+        bye[4 * i + 3] = 10;
+    return datagram;
+}
+
+/* From the twin, all calls get 14: the tally of the member of 10, from one to another. */
+static void check_twin_datagram(const uint8_t *datagram, uint32_t from, uint32_t to)
+{
+    static const struct prunepocket_answer none;
+    uint64_t numbers[TWIN_CALLS];
+    table_t table = with_two(record_20(), twin_at(unit(11)));
+    table_t expected;
+
+    for (size_t i = 0; i < TWIN_CALLS; i++)
+        numbers[i] = PRUNEPOCKET_OTHER_ORIGIN;
+    table.members[1].tally = from;
+    expected = table;
+    expected.members[1].tally = to;
+    table = take(table, datagram, TWIN_BYTES, 0, TWIN_CALLS, none, numbers, TWIN_CALLS);
+    check_true("all else as before", same_table(&table, &expected));
+    check_tallied(table, 1, twin_at(unit(11)), to);
+}
+
+static void test_twin_datagrams(void)
+{
+    for (int farewells_first = 0; farewells_first < 2; farewells_first++) {
+        uint8_t *datagram = lend_twin_datagram(farewells_first);
+        table_t table = with_one(twin_at(unit(11)));
+
+        CASE("a datagram with thirty-two calls of a twin");
+        check_twin_datagram(datagram, 0, 32);
+        check_twin_datagram(datagram, 5, 37);
+
+        CASE("a datagram with thirty-two calls of a twin, near the limit");
+        check_twin_datagram(datagram, LIMIT - 33, LIMIT - 1);
+        check_twin_datagram(datagram, LIMIT - 32, LIMIT);
+        check_twin_datagram(datagram, LIMIT - 31, LIMIT);
+        check_twin_datagram(datagram, LIMIT - 1, LIMIT);
+        check_twin_datagram(datagram, LIMIT, LIMIT);
+
+        CASE("a refused datagram of a twin");
+        table.members[0].tally = 5;
+        take_refused(table, datagram, TWIN_BYTES, 0, TWIN_CALLS - 1, PRUNEPOCKET_SHORT_BUFFER, 0);
+        take_refused(table, datagram, TWIN_BYTES - 1, 0, TWIN_CALLS, PRUNEPOCKET_BAD_LENGTH, 0);
+        take_refused(table, datagram + RR_BYTES, TWIN_BYTES - RR_BYTES, 0, TWIN_CALLS,
+                     PRUNEPOCKET_BAD_FIRST, 0);
+        free(datagram);
+    }
+}
+
+/* The member itself: it leaves with the first farewell, and each farewell behind that gets 19. */
+static void test_own_datagrams(void)
+{
+    static const struct prunepocket_answer none;
+    uint64_t numbers[TWIN_CALLS];
+    uint8_t *datagram = lend_twin_datagram(0);
+    table_t table = with_one(record_10());
+
+    CASE("a datagram with the member's report and farewells");
+    table.members[0].tally = 5;
+    for (size_t i = 0; i < TWIN_CALLS; i++)
+        numbers[i] = i < 2 ? PRUNEPOCKET_ACCEPTED : PRUNEPOCKET_NO_MEMBER;
+    table = take(table, datagram, TWIN_BYTES, 0, TWIN_CALLS, none, numbers, TWIN_CALLS);
+    check_vacant(table, 0);
+    free(datagram);
+
+    CASE("a datagram with the member's farewells, and then its report");
+    datagram = lend_twin_datagram(1);
+    table = with_one(record_10());
+    table.members[0].tally = 5;
+    numbers[1] = PRUNEPOCKET_NO_MEMBER;
+    numbers[TWIN_CALLS - 1] = PRUNEPOCKET_ACCEPTED;
+    table = take(table, datagram, TWIN_BYTES, 0, TWIN_CALLS, none, numbers, TWIN_CALLS);
+    check_member(table, 0, record_10());
+    free(datagram);
 }
 
 /* ---- Tables that C has written on ------------------------------------------------------------ */
@@ -1600,6 +2116,9 @@ static unsigned long judged_step_0[2];
 /* Random reports of new members that 13 to 17 let pass, by the lowest free place. */
 static unsigned long judged_new[PRUNEPOCKET_PLACES + 1];
 
+/* Random calls that got 14 where the tally was below the limit, and at it. */
+static unsigned long raised[2];
+
 /* Any bytes, or few different ones, so that numbers and origins meet. */
 static void fill_random(void *memory, size_t bytes, int few)
 {
@@ -1615,6 +2134,10 @@ static table_t random_table(int few)
     table_t table;
 
     fill_random(&table, sizeof table, few);
+    for (size_t place = 0; place < PRUNEPOCKET_PLACES; place++) {
+        if (next_random() % 4 == 0)
+            table.members[place].tally = LIMIT - (uint32_t)(next_random() % 2);
+    }
     if (next_random() % 2 == 0)
         table.held = word_with(next_random() % PRUNEPOCKET_PLACES, table.held);
     if (next_random() % 4 == 0)
@@ -1629,13 +2152,15 @@ static record_t random_record(const table_t *table, int few)
 
     fill_random(&record, sizeof record, few);
     if (next_random() % 2 == 0)
-        record = table->members[next_random() % PRUNEPOCKET_PLACES];
+        record = table->members[next_random() % PRUNEPOCKET_PLACES].record;
     if (next_random() % 8 != 0) {
         record.report.group = table->group;
         record.report.media = table->media;
     }
     if (next_random() % 4 == 0)
         record.source = (uint32_t)next_random();
+    if (next_random() % 4 == 0)
+        record.origin.port ^= 1;
     if (next_random() % 16 == 0)
         record.report.received = UINT64_MAX;
     if (next_random() % 4 != 0)
@@ -1679,13 +2204,49 @@ static void check_step_0(const struct prunepocket_report_fields *fields, uint64_
     }
 }
 
-static int is_member(const table_t *table, uint32_t source)
+/* The first place whose tallies differ, or PRUNEPOCKET_PLACES. */
+static size_t differing_tally(const table_t *a, const table_t *b)
+{
+    size_t place = 0;
+
+    while (place < PRUNEPOCKET_PLACES && a->members[place].tally == b->members[place].tally)
+        place++;
+    return place;
+}
+
+/* Whether some member of a number has its tally at the limit. */
+static int has_tally_at_limit(const table_t *table, uint32_t source)
 {
     for (size_t place = 0; place < PRUNEPOCKET_PLACES; place++) {
-        if (is_held(table->held, place) && table->members[place].source == source)
+        if (is_held(table->held, place) && table->members[place].record.source == source &&
+            table->members[place].tally == LIMIT)
             return 1;
     }
     return 0;
+}
+
+/*
+ * After 14: one more in the tally of a member of this number, which a random table may have twice.
+ * Where it is at the limit, and everywhere else, the table is as before.
+ */
+static void check_raised(table_t after, const table_t *table, uint32_t source)
+{
+    size_t place = differing_tally(&after, table);
+    int at_limit = place == PRUNEPOCKET_PLACES;
+    uint32_t before;
+
+    raised[at_limit]++;
+    if (at_limit) {
+        check_true("14: a tally at the limit", has_tally_at_limit(table, source));
+    } else {
+        before = table->members[place].tally;
+        check_true("14: a member of the number", is_held(table->held, place));
+        check_equal("14: its number", table->members[place].record.source, source);
+        check_true("14: its tally below the limit", before < LIMIT);
+        check_equal("14: its tally", after.members[place].tally, before + 1);
+        after.members[place].tally = before;
+    }
+    check_true("14: all else as before", same_table(&after, table));
 }
 
 static void random_report(table_t table, record_t record, reading_t reading)
@@ -1694,14 +2255,28 @@ static void random_report(table_t table, record_t record, reading_t reading)
 
     check_number("report: number", answered.number, 13, 18);
     check_step_0(&record.report, answered.number);
-    if (answered.number >= 13 && answered.number <= 17) {
+    if (answered.number == PRUNEPOCKET_OTHER_ORIGIN) {
+        check_raised(answered.table, &table, record.source);
+    } else if (answered.number >= 13 && answered.number <= 17) {
         check_true("report: the table as before", same_table(&answered.table, &table));
-    } else if (is_member(&table, record.source)) {
+    } else if (place_of(&table, record.source) < PRUNEPOCKET_PLACES) {
         check_equal("member: number", answered.number, PRUNEPOCKET_ACCEPTED);
         check_equal("member: places held", answered.table.held, table.held);
+        check_equal("member: tallies", differing_tally(&answered.table, &table),
+                    PRUNEPOCKET_PLACES);
     } else {
         judged_new[lowest_free(table.held)]++;
         check_new_member(&answered, table, record);
+    }
+}
+
+/* Members that were removed stand at their places again. Their tallies are gone or not. */
+static void put_back(table_t *after, const table_t *before, uint64_t removed)
+{
+    after->held |= removed;
+    for (size_t place = 0; place < PRUNEPOCKET_PLACES; place++) {
+        if (is_held(removed, place))
+            after->members[place].tally = before->members[place].tally;
     }
 }
 
@@ -1713,8 +2288,12 @@ static void random_farewell(table_t table, uint32_t source, origin_t origin)
     check_number("farewell: number", answered.number, 14, 19);
     check_true("farewell: not 15 to 18", answered.number < 15 || answered.number > 18);
     check_equal("farewell: removed", count_held(removed), answered.number == 0);
-    answered.table.held |= removed;
-    check_true("farewell: all else as before", same_table(&answered.table, &table));
+    if (answered.number == PRUNEPOCKET_OTHER_ORIGIN) {
+        check_raised(answered.table, &table, source);
+    } else {
+        put_back(&answered.table, &table, removed);
+        check_true("farewell: all else as before", same_table(&answered.table, &table));
+    }
 }
 
 /* 20 is given exactly where a sweep would leave no member. */
@@ -1729,7 +2308,7 @@ static void random_choice(table_t table, reading_t reading)
     check_equal("choose: 20", followed.number == 20, swept.table.held == 0);
     check_true("choose: counted", followed.target.counted <= count_held(swept.table.held));
     check_true("choose: the table as before", same_table(&followed.table, &table));
-    swept.table.held = table.held;
+    put_back(&swept.table, &table, table.held & ~swept.table.held);
     check_true("sweep: all else as before", same_table(&swept.table, &table));
 }
 
@@ -1795,6 +2374,10 @@ static void test_random_tables(void)
     check_true("met", met_step_0 >= RANDOM_TABLES / 10);
     check_true("accepted, or 18", judged_step_0[0] >= RANDOM_TABLES / 100);
     check_true("17 where received is all ones", judged_step_0[1] > 0);
+
+    CASE("14 was met on random tables, in one call of fifty or more");
+    check_true("below the limit", raised[0] >= RANDOM_TABLES / 50);
+    check_true("at the limit", raised[1] >= RANDOM_TABLES / 50);
     check_new_members_met();
 }
 
@@ -1806,6 +2389,7 @@ int main(void)
     test_answer_layouts();
     test_opened_bytes();
     test_filed_bytes();
+    test_tally_bytes();
     test_followed_bytes();
     test_near_twins();
     test_two_numbers();
@@ -1837,6 +2421,17 @@ int main(void)
     test_single_places();
     test_random_words();
     test_own_reports();
+    test_uncounted_refusals();
+    test_counted_refusals();
+    test_twins_at_every_place();
+    test_kept_tallies();
+    test_gone_tallies();
+    test_joining_at_another_place();
+    test_tally_limit();
+    test_choices_with_tallies();
+    test_vacant_tallies();
+    test_twin_datagrams();
+    test_own_datagrams();
     test_random_tables();
     return finish_checks();
 }

@@ -29,6 +29,8 @@ pub struct Arrival {
 pub enum Event {
     Call(Call),
     Arrival(Arrival),
+    /// As that of a history.
+    SetTally(u32, u32),
 }
 
 #[derive(Clone, Debug, PartialEq, Eq)]
@@ -42,7 +44,7 @@ pub fn course(rng: &mut Rng) -> Course {
     let (history, mut world) = history_with_world(rng);
     let calls = history.steps.into_iter().filter_map(|step| match step {
         Step::Call(call) => Some(Event::Call(call)),
-        Step::Choose(_) | Step::Members => None,
+        Step::Choose(_) | Step::Members | Step::SetTally(..) => None,
     });
     let mut events: Vec<Event> = calls.collect();
     for _ in 0..rng.between(1, MOST_EVENTS) {

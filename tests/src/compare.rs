@@ -38,7 +38,7 @@ pub type Verdict = Result<(), String>;
 
 /// How often each thing was met.
 #[derive(Default)]
-pub struct Tally {
+pub struct Counts {
     pub datagrams: u64,
     /// By the value of the flag and the answer: 0 and 1 to 7 datagrams, 9 and
     /// 10 calls.
@@ -62,7 +62,7 @@ struct Told<'a> {
 }
 
 impl Told<'_> {
-    /// The flag's place in a tally.
+    /// The flag's place in a count.
     fn flag(&self) -> usize {
         usize::from(self.reduced_size)
     }
@@ -72,7 +72,7 @@ pub struct Comparison {
     fault: Option<Fault>,
     rng: Rng,
     arena: Arena,
-    pub tally: Tally,
+    pub counts: Counts,
 }
 
 impl Comparison {
@@ -82,13 +82,13 @@ impl Comparison {
             fault,
             rng: Rng::new(!seed),
             arena: Arena::new(),
-            tally: Tally::default(),
+            counts: Counts::default(),
         }
     }
 
     pub fn check(&mut self, datagram: &[u8]) -> Verdict {
         let lent = Lent::new(&mut self.rng, datagram);
-        self.tally.datagrams += 1;
+        self.counts.datagrams += 1;
         for reduced_size in [false, true] {
             let told = Told {
                 datagram: lent.datagram(),
@@ -104,7 +104,7 @@ impl Comparison {
         let expected = decode_with(told.datagram, told.reduced_size, self.fault);
         check_count(told, &expected)?;
         let refusal = expected.as_ref().err().copied();
-        let firsts = &mut self.tally.firsts;
+        let firsts = &mut self.counts.firsts;
         firsts.count(told.datagram, told.reduced_size, refusal);
         match &expected {
             Ok(items) => self.check_accepted(told, items),
@@ -117,14 +117,14 @@ impl Comparison {
         let questions = Questions::new(&mut self.rng, datagram);
         let [not_agreed, agreed] = [false, true].map(|flag| questions.ask(datagram, flag));
         match compare_values(&not_agreed, &agreed, |asked| asked.number)? {
-            Values::Alike => self.tally.alike += 1,
-            Values::FourAlone => self.tally.beside_four[agreed[0].number as usize] += 1,
+            Values::Alike => self.counts.alike += 1,
+            Values::FourAlone => self.counts.beside_four[agreed[0].number as usize] += 1,
         }
         Ok(())
     }
 
     fn check_refused(&mut self, told: Told, refusal: Refusal) -> Verdict {
-        self.tally.answers[told.flag()][refusal.number as usize] += 1;
+        self.counts.answers[told.flag()][refusal.number as usize] += 1;
         let indices = [0, self.rng.below(600) as u64, u64::MAX];
         let fields = [self.rng.below(ROW) as u64, self.rng.pick(&NO_FIELDS)];
         for index in indices {
@@ -140,9 +140,9 @@ impl Comparison {
     }
 
     fn check_accepted(&mut self, told: Told, items: &[PlacedItem]) -> Verdict {
-        self.tally.answers[told.flag()][0] += 1;
+        self.counts.answers[told.flag()][0] += 1;
         for item in items {
-            self.tally.kinds[told.flag()][item.kind() as usize] += 1;
+            self.counts.kinds[told.flag()][item.kind() as usize] += 1;
         }
         self.check_all_rows(told, items)?;
         self.check_indices(told, items)
@@ -157,7 +157,7 @@ impl Comparison {
         if exact > 0 {
             for length in [exact - 1, self.rng.below(exact)] {
                 self.check_rows(told, length, Err(SHORT_BUFFER))?;
-                self.tally.answers[told.flag()][10] += 1;
+                self.counts.answers[told.flag()][10] += 1;
             }
         }
         Ok(())
@@ -199,7 +199,7 @@ impl Comparison {
         for index in [count, count + 1, 1 << 32, u64::MAX] {
             for field in [0, self.rng.below(ROW) as u64, u64::MAX] {
                 check_field(told, index, field, Err(NO_SUCH_ITEM))?;
-                self.tally.answers[told.flag()][9] += 1;
+                self.counts.answers[told.flag()][9] += 1;
             }
         }
         Ok(())
@@ -208,7 +208,7 @@ impl Comparison {
     fn check_item(&mut self, told: Told, index: u64, item: &PlacedItem) -> Verdict {
         for field in (0..ROW as u64).chain(NO_FIELDS) {
             let expected = item.field(field).ok_or(NO_SUCH_ITEM);
-            self.tally.answers[told.flag()][9] += u64::from(expected.is_err());
+            self.counts.answers[told.flag()][9] += u64::from(expected.is_err());
             check_field(told, index, field, expected)?;
         }
         Ok(())

@@ -15,18 +15,19 @@ use crate::items::{Item, Refusal};
 use crate::members::{Call, Reading};
 use crate::places::{Joins, PLACES};
 use crate::register::step;
-use prunepocket_sys::{DatagramAnswered, Place, Table};
+use crate::table_values::{check_other_tallies, check_refused, with_tally};
+use prunepocket_sys::{Answered, DatagramAnswered, Place, Table};
 use std::slice::from_ref;
 
 /// Numbers on both sides of a lent list that must stay as before.
 const GUARD: usize = 16;
 
-/// Kinds of items that are calls, as columns of a tally.
+/// Kinds of items that are calls, as columns of a count.
 pub const KINDS: [&str; 2] = ["report", "farewell"];
 
 /// How often each thing was met.
 #[derive(Default)]
-pub struct Tally {
+pub struct Counts {
     pub courses: u64,
     /// Datagrams by their value of the flag and their answer, a refusal's number
     /// or 0.
@@ -42,8 +43,16 @@ pub struct Tally {
     pub step_zero: u64,
     pub step_zero_accepted: u64,
     pub step_zero_refused: u64,
-    /// New members that the datagrams made.
+    /// New members that the datagrams made, and those whose number had a tally
+    /// before.
     pub joins: Joins,
+    pub rejoined: u64,
+    /// Datagrams that raised a tally, and that raised one more than once.
+    pub raising: u64,
+    pub raising_again: u64,
+    /// Members that were shown with a tally, and the greatest one.
+    pub tallied: u64,
+    pub greatest_tally: u32,
     /// Settings that were passed by.
     pub settings: u64,
     /// Datagrams with an accepted call, and with calls of several answers.
@@ -59,7 +68,7 @@ pub struct Tally {
     pub none_fresh: u64,
 }
 
-impl Tally {
+impl Counts {
     /// Datagrams that were taken in, refused or not.
     pub fn taken(&self) -> u64 {
         self.datagrams.iter().flatten().sum()
@@ -96,6 +105,15 @@ impl Tally {
         self.mixed += u64::from(numbers.windows(2).any(|pair| pair[0] != pair[1]));
     }
 
+    /// A datagram, by the most that it raised a tally.
+    fn count_raised(&mut self, before: &Table, after: &Table) {
+        let pairs = before.members.iter().zip(&after.members);
+        let raised = pairs.map(|(before, after)| after.tally.saturating_sub(before.tally));
+        let most = raised.max().unwrap_or(0);
+        self.raising += u64::from(most > 0);
+        self.raising_again += u64::from(most > 1);
+    }
+
     fn count_step_zero(&mut self, item: &Item, number: u64) {
         match item {
             Item::Report(report) if report.p && step(report.received, report.presented) == 0 => {
@@ -117,7 +135,7 @@ struct Sides {
 pub struct IntakeComparison {
     fault: Option<Fault>,
     rng: Rng,
-    pub tally: Tally,
+    pub counts: Counts,
 }
 
 impl IntakeComparison {
@@ -126,14 +144,14 @@ impl IntakeComparison {
         IntakeComparison {
             fault,
             rng: Rng::new(!seed),
-            tally: Tally::default(),
+            counts: Counts::default(),
         }
     }
 
     /// A whole course, from its opening on. One that is refused has no table to
     /// take a datagram.
     pub fn check(&mut self, course: &Course) -> Verdict {
-        self.tally.courses += 1;
+        self.counts.courses += 1;
         let table = archive::open(&course.opening);
         let intake = Intake::open(&course.opening, self.fault);
         let (table, intake) = match (table, intake) {
@@ -147,6 +165,10 @@ impl IntakeComparison {
             let verdict = match event {
                 Event::Call(call) => check_call(&mut sides, call),
                 Event::Arrival(arrival) => self.check_arrival(&mut sides, arrival),
+                Event::SetTally(source, tally) => {
+                    set_tally(&mut sides, *source, *tally);
+                    Ok(())
+                }
             };
             verdict.map_err(|difference| format!("event {place}, {difference}"))?;
         }
@@ -154,11 +176,14 @@ impl IntakeComparison {
     }
 
     fn check_arrival(&mut self, sides: &mut Sides, arrival: &Arrival) -> Verdict {
+        let before = sides.table;
         let answer = self.check_take(sides, arrival)?;
-        self.tally.count_answer(arrival, &answer);
-        self.tally.joins.add(&sides.intake.joins);
+        self.counts.count_answer(arrival, &answer);
+        self.counts.count_raised(&before, &sides.table);
+        self.counts.joins.add(&sides.intake.joins);
+        self.counts.rejoined += sides.intake.rejoined;
         if answer.number == 0 {
-            self.tally.spare += arrival.length as u64 - answer.count;
+            self.counts.spare += arrival.length as u64 - answer.count;
         }
         self.check_members(sides)?;
         self.check_choice(sides, &arrival.reading)?;
@@ -194,7 +219,7 @@ impl IntakeComparison {
         sides.table = taken.table;
         if answer.number == 0 {
             let numbers = &memory[list][..answer.count as usize];
-            self.tally.count_items(arrival, numbers);
+            self.counts.count_items(arrival, numbers);
         }
         Ok(answer)
     }
@@ -204,8 +229,8 @@ impl IntakeComparison {
     fn check_alike(&mut self, [not_agreed, agreed]: &[Taken; 2]) -> Verdict {
         let number = |(taken, _): &Taken| taken.number;
         match compare_values(from_ref(not_agreed), from_ref(agreed), number)? {
-            Values::Alike => self.tally.alike += 1,
-            Values::FourAlone => self.tally.beside_four += 1,
+            Values::Alike => self.counts.alike += 1,
+            Values::FourAlone => self.counts.beside_four += 1,
         }
         Ok(())
     }
@@ -223,13 +248,16 @@ impl IntakeComparison {
             };
             let shown = sides.table.member_at(place);
             same(format_args!("place {place}"), &shown, &expected)?;
+            let tally = shown.member.tally;
+            self.counts.tallied += u64::from(tally > 0);
+            self.counts.greatest_tally = self.counts.greatest_tally.max(tally);
         }
         let count = sides.intake.count_members();
         let answer = sides.table.count_members();
         same(format_args!("how many members"), &answer, &(count as u32))?;
-        self.tally.empty_tables += u64::from(count == 0);
-        self.tally.full_tables += u64::from(count == PLACES);
-        self.tally.members += count as u64;
+        self.counts.empty_tables += u64::from(count == 0);
+        self.counts.full_tables += u64::from(count == PLACES);
+        self.counts.members += count as u64;
         Ok(())
     }
 
@@ -240,9 +268,11 @@ impl IntakeComparison {
         if followed.table != sides.table {
             return Err(String::from("the table after choosing is not as before"));
         }
+        let (rng, table) = (&mut self.rng, &sides.table);
+        check_other_tallies(rng, table, reading, &expected, Table::choose)?;
         match followed.number {
-            0 => self.tally.targets += 1,
-            _ => self.tally.none_fresh += 1,
+            0 => self.counts.targets += 1,
+            _ => self.counts.none_fresh += 1,
         }
         Ok(())
     }
@@ -267,10 +297,22 @@ fn take(table: &Table, lent: &Lent, reduced_size: bool, arrival: &Arrival) -> Ta
 /// A single call between the datagrams.
 fn check_call(sides: &mut Sides, call: &Call) -> Verdict {
     let expected = sides.intake.call(call);
-    let answered = archive::call(&sides.table, call);
-    same(format_args!("the answer"), &answered.number, &expected)?;
-    sides.table = answered.table;
+    let Answered { number, table } = archive::call(&sides.table, call);
+    same(format_args!("the answer"), &number, &expected)?;
+    if number != 0 {
+        check_refused(&sides.table, call, number, &table)?;
+    }
+    sides.table = table;
     Ok(())
+}
+
+/// Both sides are as if the member with this number, if there is one, had this
+/// tally.
+fn set_tally(sides: &mut Sides, source: u32, tally: u32) {
+    if let Some(table) = with_tally(&sides.table, source, tally) {
+        sides.table = table;
+        sides.intake.set_tally(source, tally);
+    }
 }
 
 /// The list and what stands around it, after a call.

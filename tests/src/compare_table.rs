@@ -6,15 +6,18 @@ use crate::archive;
 use crate::compare::{same, Verdict};
 use crate::generator::Rng;
 use crate::histories::{History, Step};
-use crate::members::{Call, Opening, Reading, Record, ReportFields, Target};
+use crate::members::{Call, Member, Opening, Reading, Record, ReportFields, Target};
 use crate::places::{self, count_held_with, lowest_free_with, Held, Joins, PLACES};
 use crate::register::{self, step, Register};
+use crate::table_values::{check_other_tallies, check_refused, with_tally, COPIES};
 use crate::target::{AtReading, Seen};
+use crate::twins::Twins;
 use prunepocket_sys::{Answered, Place, Table};
 use std::array::from_fn;
 use std::cell::OnceCell;
+use std::collections::HashMap;
 
-/// Kinds of calls, as columns of a tally.
+/// Kinds of calls, as columns of a count.
 pub const KINDS: [&str; 5] = ["open", "report", "farewell", "sweep", "choose"];
 
 /// What errs where a fault is planted.
@@ -26,7 +29,7 @@ pub enum Fault {
 
 /// How often each thing was met.
 #[derive(Default)]
-pub struct Tally {
+pub struct Counts {
     pub histories: u64,
     /// By kind of call and by its answer, a refusal's number or 0.
     pub answers: [[u64; 21]; KINDS.len()],
@@ -35,6 +38,7 @@ pub struct Tally {
     pub full_lists: u64,
     pub members: u64,
     pub joins: Joins,
+    pub twins: Twins,
     pub step_zero: StepZero,
     pub targets: Targets,
 }
@@ -71,7 +75,7 @@ pub struct Targets {
     pub unit_apart: u64,
 }
 
-impl Tally {
+impl Counts {
     /// Reports, farewells and sweeps.
     pub fn calls(&self) -> u64 {
         self.answers[1..4].iter().flatten().sum()
@@ -108,9 +112,14 @@ impl Shown {
         self.places().map(|place| place.held == 1)
     }
 
-    fn members(&self) -> Vec<Record> {
+    fn members(&self) -> Vec<Member> {
         let held = self.places().iter().filter(|place| place.held == 1);
         held.map(|place| place.member).collect()
+    }
+
+    fn records(&self) -> Vec<Record> {
+        let members = self.members().into_iter();
+        members.map(|member| member.record).collect()
     }
 
     /// The word marks the places with a member; any other shows zeros.
@@ -134,12 +143,14 @@ struct Sides {
     register: Register,
     /// The places that have had a member.
     used: Held,
+    /// The place that each number's last member took.
+    taken: HashMap<u32, usize>,
 }
 
 pub struct TableComparison {
     fault: Option<Fault>,
     rng: Rng,
-    pub tally: Tally,
+    pub counts: Counts,
 }
 
 impl TableComparison {
@@ -148,7 +159,7 @@ impl TableComparison {
         TableComparison {
             fault,
             rng: Rng::new(!seed),
-            tally: Tally::default(),
+            counts: Counts::default(),
         }
     }
 
@@ -168,7 +179,7 @@ impl TableComparison {
 
     /// A whole history, from its opening on.
     pub fn check(&mut self, history: &History) -> Verdict {
-        self.tally.histories += 1;
+        self.counts.histories += 1;
         let Some(mut sides) = self.open(&history.opening)? else {
             return Ok(());
         };
@@ -187,7 +198,7 @@ impl TableComparison {
         let answer = number(table.as_ref().err());
         let expected = number(register.as_ref().err());
         same(format_args!("opening"), &answer, &expected)?;
-        self.tally.answers[0][answer as usize] += 1;
+        self.counts.answers[0][answer as usize] += 1;
         let (Ok(table), Ok(register)) = (table, register) else {
             return Ok(None);
         };
@@ -196,6 +207,7 @@ impl TableComparison {
             shown: Shown::new(table),
             register,
             used: [false; PLACES],
+            taken: HashMap::new(),
         }))
     }
 
@@ -204,6 +216,10 @@ impl TableComparison {
             Step::Call(call) => self.check_call(sides, call),
             Step::Choose(reading) => self.check_choice(sides, reading),
             Step::Members => self.check_members(sides),
+            Step::SetTally(source, tally) => {
+                set_tally(sides, *source, *tally);
+                Ok(())
+            }
         }
     }
 
@@ -212,19 +228,21 @@ impl TableComparison {
         let expected = sides.register.call(call);
         let Answered { number, table } = archive::call(&sides.shown.table, call);
         same(format_args!("the answer"), &number, &expected)?;
-        self.tally.answers[kind(call)][number as usize] += 1;
-        if number != 0 && table != sides.shown.table {
-            return Err(String::from("the table after a refusal is not as before"));
+        self.counts.answers[kind(call)][number as usize] += 1;
+        if number != 0 {
+            check_refused(&sides.shown.table, call, number, &table)?;
         }
+        let twins = &mut self.counts.twins;
+        twins.count(&sides.shown.table, call, number, &table);
         let after = Shown::new(table);
         if let Call::Report(told, _) = call {
-            self.tally.step_zero.count(&told.report, number);
+            self.counts.step_zero.count(&told.report, number);
             if sides.register.rows().len() > rows || number == 18 {
                 self.check_join(sides, number, &after, told)?;
             }
         }
-        // A refusal leaves the same table, which may have been looked at.
-        if number == 0 {
+        // Any other answer leaves the same table, which may have been looked at.
+        if matches!(number, 0 | 14) {
             sides.shown = after;
         }
         Ok(())
@@ -246,9 +264,13 @@ impl TableComparison {
         same(format_args!("a new member"), &number, &expected)?;
         let mut places = *sides.shown.places();
         if let Some(place) = free {
-            let member = *told;
+            let (record, tally) = (*told, 0);
+            let member = Member { record, tally };
             places[place] = Place { held: 1, member };
-            self.tally.joins.count(&held, &mut sides.used, place);
+            self.counts.joins.count(&held, &mut sides.used, place);
+            let taken = sides.taken.insert(told.source, place);
+            let rejoined = &mut self.counts.twins.rejoined[usize::from(taken == Some(place))];
+            *rejoined += u64::from(sides.register.had_tally(told.source));
         }
         for (place, (shown, expected)) in after.places().iter().zip(&places).enumerate() {
             same(format_args!("place {place}"), shown, expected)?;
@@ -265,23 +287,26 @@ impl TableComparison {
         let count = table.count_members();
         same(format_args!("how many members"), &count, &(held as u32))?;
         let mut members = sides.shown.members();
-        let mut rows = sides.register.rows().to_vec();
-        members.sort_by_key(|member| member.source);
-        rows.sort_by_key(|row| row.source);
+        let mut rows = sides.register.members();
+        members.sort_by_key(|member| member.record.source);
+        rows.sort_by_key(|row| row.record.source);
         same(format_args!("the members"), &members, &rows)?;
         let outside = PLACES + (self.rng.number() as usize >> self.rng.between(1, 63));
         for place in [PLACES, outside, usize::MAX] {
             let shown = table.member_at(place);
             same(format_args!("place {place}"), &shown, &Place::default())?;
         }
-        self.tally.member_lists += 1;
-        self.tally.full_lists += u64::from(rows.len() == PLACES);
-        self.tally.members += rows.len() as u64;
+        self.counts.member_lists += 1;
+        self.counts.full_lists += u64::from(rows.len() == PLACES);
+        self.counts.members += rows.len() as u64;
+        for row in rows {
+            self.counts.twins.count_shown(row.tally);
+        }
         Ok(())
     }
 
     /// Choosing answers as the register, with a target as defined, and leaves
-    /// the table as it was.
+    /// the table as it was. It does so with any tallies.
     fn check_choice(&mut self, sides: &Sides, reading: &Reading) -> Verdict {
         let expected = sides.register.choose(reading);
         let followed = sides.shown.table.choose(reading);
@@ -298,15 +323,18 @@ impl TableComparison {
                 &nothing,
             )?;
         }
-        self.tally.answers[4][followed.number as usize] += 1;
+        self.counts.answers[4][followed.number as usize] += 1;
+        let (rng, table) = (&mut self.rng, &sides.shown.table);
+        check_other_tallies(rng, table, reading, &choice, Table::choose)?;
+        self.counts.twins.copies += COPIES;
         let at_reading = AtReading {
             rate: sides.opening.rate,
             reading: *reading,
-            members: &sides.shown.members(),
+            members: &sides.shown.records(),
         };
         let seen = at_reading.check(&choice, &samples(&mut self.rng));
         let seen = seen.map_err(|wrong| format!("the target {choice:?}: {wrong}"))?;
-        self.tally.targets.count(seen);
+        self.counts.targets.count(seen);
         Ok(())
     }
 }
@@ -347,7 +375,16 @@ impl Targets {
     }
 }
 
-/// The column of a call in a tally.
+/// Both sides are as if the member with this number, if there is one, had this
+/// tally.
+fn set_tally(sides: &mut Sides, source: u32, tally: u32) {
+    if let Some(table) = with_tally(&sides.shown.table, source, tally) {
+        sides.shown = Shown::new(table);
+        sides.register.set_tally(source, tally);
+    }
+}
+
+/// The column of a call in a count.
 fn kind(call: &Call) -> usize {
     match call {
         Call::Report(..) => 1,

@@ -30,7 +30,7 @@ type Row = [u64; ROW];
 
 /// How often each thing was met with one of the writers.
 #[derive(Default)]
-pub struct Tally {
+pub struct Counts {
     pub accepted: u64,
     pub short_buffer: u64,
     pub out_of_range: u64,
@@ -53,8 +53,8 @@ pub struct Tally {
 pub struct WriterComparison {
     fault: Option<Fault>,
     rng: Rng,
-    pub reports: Tally,
-    pub settings: Tally,
+    pub reports: Counts,
+    pub settings: Counts,
 }
 
 impl WriterComparison {
@@ -63,12 +63,12 @@ impl WriterComparison {
         WriterComparison {
             fault,
             rng: Rng::new(!seed),
-            reports: Tally::default(),
-            settings: Tally::default(),
+            reports: Counts::default(),
+            settings: Counts::default(),
         }
     }
 
-    fn tally(&mut self, message: &Message) -> &mut Tally {
+    fn counts(&mut self, message: &Message) -> &mut Counts {
         match message {
             Message::Report(_) => &mut self.reports,
             Message::Settings(_) => &mut self.settings,
@@ -78,18 +78,18 @@ impl WriterComparison {
     /// Writes a message into a buffer of a length, and reads it again.
     pub fn check(&mut self, message: &Message, length: usize) -> Verdict {
         let answer = self.check_write(message, length)?;
-        let tally = self.tally(message);
+        let counts = self.counts(message);
         match answer {
             Ok(bytes) => {
-                tally.accepted += 1;
+                counts.accepted += 1;
                 self.check_read_back(message, &bytes)
             }
             Err(10) => {
-                tally.short_buffer += 1;
+                counts.short_buffer += 1;
                 Ok(())
             }
             Err(_) => {
-                tally.out_of_range += 1;
+                counts.out_of_range += 1;
                 Ok(())
             }
         }
@@ -131,12 +131,12 @@ impl WriterComparison {
         let behind_rr = Ok(vec![row_at(message, 8)]);
         for (flag, reduced_size) in [false, true].into_iter().enumerate() {
             check_read(&datagram, reduced_size, &behind_rr)?;
-            self.tally(message).read_back[flag] += 1;
+            self.counts(message).read_back[flag] += 1;
         }
         check_read(bytes, true, &Ok(vec![row_at(message, 0)]))?;
-        self.tally(message).read_alone += 1;
+        self.counts(message).read_alone += 1;
         check_read(bytes, false, &Err(BAD_FIRST))?;
-        self.tally(message).refused_alone += 1;
+        self.counts(message).refused_alone += 1;
         Ok(())
     }
 
@@ -156,9 +156,9 @@ impl WriterComparison {
                     continue;
                 };
                 if self.check_written_back(&message, &compound.bytes[row[1] as usize..])? {
-                    let tally = self.tally(&message);
-                    tally.written_back[usize::from(reduced_size)] += 1;
-                    tally.written_from_reduced += u64::from(compound.needs_reduced_size());
+                    let counts = self.counts(&message);
+                    counts.written_back[usize::from(reduced_size)] += 1;
+                    counts.written_from_reduced += u64::from(compound.needs_reduced_size());
                 }
             }
         }
@@ -171,7 +171,7 @@ impl WriterComparison {
         let length = self.rng.between(message.size(), LONGEST_BUFFER);
         let answer = self.check_write(message, length)?;
         if group(message) == RESERVED_GROUP {
-            self.tally(message).not_written_back += 1;
+            self.counts(message).not_written_back += 1;
             same(format_args!("written back"), &answer, &Err(11))?;
             return Ok(false);
         }

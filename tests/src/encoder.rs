@@ -4,7 +4,7 @@
 //! As in the decoder, a `Fault` plants one error that the comparison has to
 //! find.
 
-use prunepocket_sys::{ReportMessage, SettingsMessage};
+use prunepocket_sys::{Record, ReportMessage, SettingsMessage};
 
 /// An XR packet with one report block.
 pub const REPORT_BYTES: usize = 40;
@@ -32,6 +32,23 @@ impl Message {
             Message::Report(fields) => report_with(fields, length, fault).map(Vec::from),
             Message::Settings(fields) => settings_with(fields, length, fault).map(Vec::from),
         }
+    }
+}
+
+impl From<&Record> for Message {
+    /// The report of a source.
+    fn from(record: &Record) -> Self {
+        let report = &record.report;
+        Message::Report(ReportMessage {
+            sender: record.source,
+            payload_type: report.payload_type.into(),
+            p: report.p.into(),
+            group: report.group,
+            media: report.media,
+            received: report.received,
+            rtp: report.rtp,
+            presented: report.presented,
+        })
     }
 }
 

@@ -1,13 +1,13 @@
 //! What the first packets of datagrams were and what came of them, by the value
 //! of the flag for reduced size: how often each was met.
 
+use crate::counts::{answer_name, Line};
 use crate::items::Refusal;
-use crate::tallies::{answer_name, Line};
 
-/// The values of the flag, as columns of a tally.
+/// The values of the flag, as columns of a count.
 pub const FLAGS: [&str; 2] = ["flag 0", "flag 1"];
 
-/// Types of a first packet, as columns of a tally.
+/// Types of a first packet, as columns of a count.
 const TYPES: [&str; 8] = ["SR", "RR", "SDES", "BYE", "APP", "XR", "211", "other"];
 
 /// What can come of a datagram: 0 that it is accepted, 1 to 7 that it is refused

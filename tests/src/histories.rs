@@ -1,5 +1,6 @@
-//! A seeded generator of call histories: few and many sources and origins,
-//! readings that jump, wrap and repeat, and times at and next to every limit.
+//! A seeded generator of call histories: few and many sources, origins and
+//! twins, readings that jump, wrap and repeat, and times at and next to every
+//! limit.
 
 use crate::generator::Rng;
 use crate::members::{Call, Opening, Origin, Reading, Record, ReportFields};
@@ -33,6 +34,9 @@ pub enum Step {
     Choose(Reading),
     /// All members are compared.
     Members,
+    /// The tally of the member with this number is written into the table. No
+    /// history of the generator has it.
+    SetTally(u32, u32),
 }
 
 #[derive(Clone, Debug, PartialEq, Eq)]
@@ -80,13 +84,15 @@ fn opening(rng: &mut Rng) -> Opening {
     Opening { group, media, rate }
 }
 
-/// What a history is like; all but the first four in percent.
+/// What a history is like; all but the first five in percent.
 struct Temper {
     length: usize,
     sources: usize,
     origins: usize,
     /// Sources that report in turn beforehand.
     filled: usize,
+    /// The first so many sources have twins.
+    twinned: usize,
     /// Calls from an origin that is not the source's own.
     twins: usize,
     /// Fields at a limit, or wrong.
@@ -106,6 +112,7 @@ impl Temper {
         match rng.below(10) {
             0..=1 => Temper::crowded(rng),
             2 => Temper::filled(rng),
+            3 => Temper::twinned(rng),
             _ => Temper::mixed(rng),
         }
     }
@@ -117,6 +124,7 @@ impl Temper {
             sources: rng.between(60, 70),
             origins: rng.pick(&[1, 2, 70]),
             filled: 0,
+            twinned: usize::MAX,
             twins: 2,
             edges: rng.pick(&[1, 3]),
             echoes: rng.pick(&[5, 30]),
@@ -139,6 +147,22 @@ impl Temper {
         }
     }
 
+    /// Many calls come from twins of few numbers, among members that come and go.
+    fn twinned(rng: &mut Rng) -> Self {
+        Temper {
+            length: rng.between(50, 400),
+            sources: rng.pick(&[1, 2, 4, 12, 66]),
+            origins: rng.pick(&[2, 3, 8]),
+            twinned: rng.pick(&[1, 2, 4]),
+            twins: rng.pick(&[50, 70, 90]),
+            edges: rng.pick(&[2, 20]),
+            farewells: rng.pick(&[5, 20, 40]),
+            sweeps: rng.pick(&[1, 4]),
+            jumps: rng.pick(&[0, 1, 4]),
+            ..Temper::mixed(rng)
+        }
+    }
+
     fn mixed(rng: &mut Rng) -> Self {
         let longest = rng.pick(&[4, 20, 80, 200]);
         Temper {
@@ -146,6 +170,7 @@ impl Temper {
             sources: rng.pick(&[1, 2, 2, 3, 8, 30]),
             origins: rng.pick(&[1, 2, 3, 8, 40]),
             filled: 0,
+            twinned: usize::MAX,
             twins: rng.pick(&[2, 10, 40]),
             edges: rng.pick(&[2, 5, 20]),
             echoes: rng.pick(&[2, 20, 60]),
@@ -229,12 +254,16 @@ impl World {
 
     /// A source with its own origin, or at times with another.
     pub(crate) fn sender(&self, rng: &mut Rng) -> (u32, Origin) {
-        let index = rng.below(self.sources.len());
+        let (sources, twin) = (self.sources.len(), rng.chance(self.temper.twins));
+        let index = match twin {
+            true => rng.below(sources.min(self.temper.twinned)),
+            false => rng.below(sources),
+        };
         let source = match rng.chance(1) {
             true => rng.word(),
             false => self.sources[index],
         };
-        let origin = match rng.chance(self.temper.twins) {
+        let origin = match twin {
             true => self.twin_origin(rng, index),
             false => self.own_origin(index),
         };

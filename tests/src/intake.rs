@@ -8,9 +8,9 @@
 use crate::arrivals::Arrival;
 use crate::decoder::decode;
 use crate::items::{Item, PlacedItem, Refusal};
-use crate::members::{Call, Choice, Opening, Reading, Record, ReportFields};
+use crate::members::{Call, Choice, Member, Opening, Reading, Record, ReportFields};
 use crate::places::{self, count_held_with, lowest_free_with, Held, Joins, PLACES};
-use crate::register::Register;
+use crate::register::{self, Register};
 
 #[derive(Clone, Copy, Debug, PartialEq, Eq)]
 pub enum Fault {
@@ -48,13 +48,17 @@ pub enum Fault {
     FlagTakenAsSet,
     /// The decoder is told what was said with the first datagram.
     FlagKept,
+    /// A new member starts with the tally of the last one at its place.
+    TallyKeptByPlace,
     /// The rule of places errs.
     Places(places::Fault),
+    /// The register errs.
+    Register(register::Fault),
 }
 
 impl Fault {
-    /// All but those of the places.
-    pub const ALL: [Fault; 17] = [
+    /// All but those of the places and of the register.
+    pub const ALL: [Fault; 18] = [
         Fault::SettingsCounted,
         Fault::SettingsFiled,
         Fault::FarewellsFirst,
@@ -72,6 +76,7 @@ impl Fault {
         Fault::FlagNotPassedOn,
         Fault::FlagTakenAsSet,
         Fault::FlagKept,
+        Fault::TallyKeptByPlace,
     ];
 }
 
@@ -111,22 +116,32 @@ pub struct Intake {
     used: Held,
     /// New members since the last datagram came.
     pub joins: Joins,
+    /// Those among them whose number had a tally before.
+    pub rejoined: u64,
     fault: Option<Fault>,
     /// The flag of the first datagram, for the fault that keeps it.
     first_flag: Option<bool>,
+    /// The source that last stood at each place, for the fault that keeps its tally.
+    last: [Option<u32>; PLACES],
 }
 
 impl Intake {
     /// Without rows, or 12.
     pub fn open(opening: &Opening, fault: Option<Fault>) -> Result<Intake, u64> {
-        let register = Register::open(opening, None)?;
+        let register_fault = match fault {
+            Some(Fault::Register(fault)) => Some(fault),
+            _ => None,
+        };
+        let register = Register::open(opening, register_fault)?;
         Ok(Intake {
             register,
             places: [None; PLACES],
             used: [false; PLACES],
             joins: Joins::default(),
+            rejoined: 0,
             fault,
             first_flag: None,
+            last: [None; PLACES],
         })
     }
 
@@ -146,9 +161,14 @@ impl Intake {
     }
 
     /// The member at each place.
-    pub fn members(&self) -> [Option<Record>; PLACES] {
-        let row = |source: u32| self.register.rows().iter().find(|row| row.source == source);
-        self.places.map(|source| source.and_then(row).copied())
+    pub fn members(&self) -> [Option<Member>; PLACES] {
+        let member = |source: u32| self.register.member_of(source);
+        self.places.map(|source| source.and_then(member))
+    }
+
+    /// As if the number of a member had been refused with 14 so often.
+    pub fn set_tally(&mut self, source: u32, tally: u32) {
+        self.register.set_tally(source, tally);
     }
 
     pub fn count_members(&self) -> usize {
@@ -185,7 +205,13 @@ impl Intake {
             return 18;
         };
         self.joins.count(&held, &mut self.used, place);
+        self.rejoined += u64::from(self.register.had_tally(source));
         self.places[place] = Some(source);
+        let last = self.last[place].replace(source);
+        if let (Some(last), true) = (last, self.planted(Fault::TallyKeptByPlace)) {
+            let tally = self.register.tally(last);
+            self.register.set_tally(source, tally);
+        }
         0
     }
 
@@ -198,6 +224,7 @@ impl Intake {
     /// Takes a whole datagram, with this list for the calls' numbers.
     pub fn take(&mut self, arrival: &Arrival, list: &mut [u64]) -> Answer {
         self.joins = Joins::default();
+        self.rejoined = 0;
         match decode(&arrival.datagram, self.flag(arrival.reduced_size)) {
             Ok(items) => self.take_items(arrival, &items, list),
             Err(refusal) => self.refuse(arrival, refusal, list.len()),

@@ -1,7 +1,7 @@
 //! What the member table is told and what it answers. The structs are C's, so
 //! that the archive takes them as they are.
 
-pub use prunepocket_sys::{Origin, Reading, Record, ReportFields, Target};
+pub use prunepocket_sys::{Member, Origin, Reading, Record, ReportFields, Target};
 
 /// What a table is opened for.
 #[derive(Clone, Copy, Debug, PartialEq, Eq)]
@@ -17,6 +17,17 @@ pub enum Call {
     Report(Record, Reading),
     Farewell(u32, Origin),
     Sweep(Reading),
+}
+
+impl Call {
+    /// The source number that it is under; a sweep is under none.
+    pub fn source(&self) -> Option<u32> {
+        match self {
+            Call::Report(told, _) => Some(told.source),
+            Call::Farewell(source, _) => Some(*source),
+            Call::Sweep(_) => None,
+        }
+    }
 }
 
 /// The target, or a refusal's number.

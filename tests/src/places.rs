@@ -4,7 +4,7 @@
 //! As in the decoder, a `Fault` plants one error that the comparisons have to
 //! find.
 
-use crate::tallies::{lines, Line};
+use crate::counts::{lines, Line};
 
 /// Places in a table.
 pub const PLACES: usize = 64;

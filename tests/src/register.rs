@@ -1,10 +1,14 @@
 //! The plain register of document 01: rows of source number, origin and
-//! standing report, fed with the calls' arguments alone.
+//! standing report, fed with the calls' arguments alone, and the list of the
+//! calls, which tells the tallies.
 //!
 //! As in the decoder, a `Fault` plants one error that the comparison has to
 //! find.
 
-use crate::members::{Call, Choice, Opening, Origin, Reading, Record, ReportFields, Target};
+use crate::call_history::{self, Before, CallHistory};
+use crate::members::{
+    Call, Choice, Member, Opening, Origin, Reading, Record, ReportFields, Target,
+};
 use std::cmp::Reverse;
 
 const SECOND: i128 = 1 << 32;
@@ -88,15 +92,22 @@ pub enum Fault {
     EarliestChosen,
     /// Among equals, the highest source number is chosen.
     HighestOnTie,
+    /// Among equals, the greatest tally is chosen.
+    GreatestTallyOnTie,
+    /// Among equals, the least tally is chosen.
+    LeastTallyOnTie,
     /// One more is counted than there are.
     CountOneMore,
     /// The presented time is not expanded.
     PresentedShort,
     /// The presented time is the received one in arrival mode.
     PresentedInArrival,
+    /// The tallies err.
+    CallHistory(call_history::Fault),
 }
 
 impl Fault {
+    /// All but those of the tallies.
     pub fn all() -> Vec<Fault> {
         let plain = [
             Fault::GroupZeroOpened,
@@ -138,6 +149,8 @@ impl Fault {
             Fault::DelayIgnored,
             Fault::EarliestChosen,
             Fault::HighestOnTie,
+            Fault::GreatestTallyOnTie,
+            Fault::LeastTallyOnTie,
             Fault::CountOneMore,
             Fault::PresentedShort,
             Fault::PresentedInArrival,
@@ -152,15 +165,21 @@ impl Fault {
 pub struct Register {
     opening: Opening,
     rows: Vec<Record>,
+    calls: CallHistory,
     fault: Option<Fault>,
 }
 
 impl Register {
     /// The register without rows, or 12.
     pub fn open(opening: &Opening, fault: Option<Fault>) -> Result<Register, u64> {
+        let calls_fault = match fault {
+            Some(Fault::CallHistory(fault)) => Some(fault),
+            _ => None,
+        };
         let register = Register {
             opening: *opening,
             rows: Vec::new(),
+            calls: CallHistory::new(calls_fault),
             fault,
         };
         match register.opens() {
@@ -193,13 +212,55 @@ impl Register {
         &self.rows
     }
 
+    /// Each row with its tally.
+    pub fn members(&self) -> Vec<Member> {
+        let rows = self.rows.iter();
+        rows.map(|row| self.member(row)).collect()
+    }
+
+    /// The member with this number.
+    pub fn member_of(&self, source: u32) -> Option<Member> {
+        self.row(source).map(|row| self.member(row))
+    }
+
+    fn member(&self, row: &Record) -> Member {
+        Member {
+            record: *row,
+            tally: self.tally(row.source),
+        }
+    }
+
+    /// Of a member, or of the last one with this number.
+    pub fn tally(&self, source: u32) -> u32 {
+        self.calls.tally(source)
+    }
+
+    /// As if the number of a row had been refused with 14 so often since its
+    /// member joined.
+    pub fn set_tally(&mut self, source: u32, tally: u32) {
+        self.calls.set_tally(source, tally);
+    }
+
+    /// Whether a member with this number had a tally, and left.
+    pub fn had_tally(&self, source: u32) -> bool {
+        self.calls.had_tally(source)
+    }
+
     /// The refusal's number, or 0 where there is none.
     pub fn call(&mut self, call: &Call) -> u64 {
-        match call {
+        let before = Before {
+            held: call
+                .source()
+                .is_some_and(|source| self.row(source).is_some()),
+            first: self.rows.first().map(|row| row.source),
+        };
+        let number = match call {
             Call::Report(told, reading) => self.report(told, reading),
             Call::Farewell(source, origin) => self.farewell(*source, origin),
             Call::Sweep(reading) => self.sweep(reading),
-        }
+        };
+        self.calls.add(call, number, &before);
+        number
     }
 
     fn report(&mut self, told: &Record, reading: &Reading) -> u64 {
@@ -418,12 +479,16 @@ impl Register {
         Ok(self.target(chosen, by_presentation, count))
     }
 
-    /// The greatest is chosen: greater lateness, then lower source number.
-    fn rank(&self, lateness: i128, source: u32) -> (i128, Reverse<u32>) {
+    /// The greatest is chosen: greater lateness, then lower source number. The
+    /// number between them is always 0, but for the faults.
+    fn rank(&self, lateness: i128, source: u32) -> (i128, i64, Reverse<u32>) {
+        let tally = || i64::from(self.tally(source));
         match self.fault {
-            Some(Fault::EarliestChosen) => (-lateness, Reverse(source)),
-            Some(Fault::HighestOnTie) => (lateness, Reverse(!source)),
-            _ => (lateness, Reverse(source)),
+            Some(Fault::EarliestChosen) => (-lateness, 0, Reverse(source)),
+            Some(Fault::HighestOnTie) => (lateness, 0, Reverse(!source)),
+            Some(Fault::GreatestTallyOnTie) => (lateness, tally(), Reverse(source)),
+            Some(Fault::LeastTallyOnTie) => (lateness, -tally(), Reverse(source)),
+            _ => (lateness, 0, Reverse(source)),
         }
     }
 

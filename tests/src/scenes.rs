@@ -8,7 +8,7 @@ use crate::members::{Call, Choice, Opening, Origin, Reading, Record, ReportField
 use crate::places::PLACES;
 use crate::sides::Side;
 use crate::target::AtReading;
-use prunepocket_sys::{Refusal, ReportMessage, SettingsMessage};
+use prunepocket_sys::{Refusal, SettingsMessage};
 
 const OPENING: Opening = Opening {
     group: 42,
@@ -174,13 +174,19 @@ impl<S: Side> Bench<S> {
             (["members"], [due]) => is(self.side.count_members(), number(due)?),
             (["place", index], due) => {
                 let member = self.side.member_at(number(index)?);
-                let held = member.map(|member| (member.source, member.origin));
+                let held = member.map(|member| (member.record.source, member.record.origin));
                 is(held, holder(due)?)
             }
-            (["unchanged"], []) => self.unchanged(),
+            (["tally", index], [due]) => is(tally_at(&self.side, number(index)?), number(due)?),
+            (["unchanged"], []) => self.unchanged(None),
+            (["unchanged", "but", "tally", index], [due]) => {
+                let index = number(index)?;
+                self.unchanged(Some(index))?;
+                is(tally_at(&self.side, index), number(due)?)
+            }
             (["write", "report"], words) => {
                 let report = self.last_report.ok_or("there is no report")?;
-                is(S::write(&report_message(&report)), Ok(bytes(words)?))
+                is(S::write(&Message::from(&report)), Ok(bytes(words)?))
             }
             (["write", "settings", sender], words) => {
                 let settings = settings_message(number(sender)?, &self.target()?);
@@ -229,7 +235,7 @@ impl<S: Side> Bench<S> {
     }
 
     fn send_report(&mut self, record: &Record) -> Result<u64, String> {
-        let message = S::write(&report_message(record));
+        let message = S::write(&Message::from(record));
         let message = message.map_err(|number| format!("not written: {number}"))?;
         self.send(record.source, &message, &record.origin)
     }
@@ -252,7 +258,7 @@ impl<S: Side> Bench<S> {
     /// The choice is as defined for the members that the side shows.
     fn choose(&mut self) -> Result<Choice, String> {
         let choice = self.side.choose(&self.reading);
-        self.at_reading(&members(&self.side)).check(&choice, &[0])?;
+        self.at_reading(&records(&self.side)).check(&choice, &[0])?;
         self.target = choice.ok();
         Ok(choice)
     }
@@ -269,9 +275,14 @@ impl<S: Side> Bench<S> {
         }
     }
 
-    fn unchanged(&self) -> Verdict {
+    /// Members and target are as before the last call, but for the tally at one
+    /// place.
+    fn unchanged(&self, but: Option<usize>) -> Verdict {
         for place in 0..PLACES {
-            let [now, then] = [&self.side, &self.before].map(|side| side.member_at(place));
+            let [now, mut then] = [&self.side, &self.before].map(|side| side.member_at(place));
+            if let (Some(then), true) = (&mut then, but == Some(place)) {
+                then.tally = tally_at(&self.side, place);
+            }
             same(format_args!("place {place}"), &now, &then)?;
         }
         let [now, then] = [&self.side, &self.before].map(|side| side.choose(&self.reading));
@@ -350,24 +361,14 @@ fn is<T: PartialEq + std::fmt::Debug>(answer: T, due: T) -> Verdict {
     }
 }
 
-fn members(side: &impl Side) -> Vec<Record> {
-    (0..PLACES)
-        .filter_map(|place| side.member_at(place))
-        .collect()
+fn records(side: &impl Side) -> Vec<Record> {
+    let members = (0..PLACES).filter_map(|place| side.member_at(place));
+    members.map(|member| member.record).collect()
 }
 
-fn report_message(record: &Record) -> Message {
-    let report = &record.report;
-    Message::Report(ReportMessage {
-        sender: record.source,
-        payload_type: report.payload_type.into(),
-        p: report.p.into(),
-        group: report.group,
-        media: report.media,
-        received: report.received,
-        rtp: report.rtp,
-        presented: report.presented,
-    })
+/// 0 where there is no member.
+fn tally_at(side: &impl Side, place: usize) -> u32 {
+    side.member_at(place).map_or(0, |member| member.tally)
 }
 
 fn settings_message(sender: u32, target: &Target) -> Message {
@@ -542,6 +543,45 @@ mod tests {
         assert!(fails("  write line 42 = refused 22\n"));
     }
 
+    const TWIN: &str = "  report 10 192.0.2.1:6000 999 8910000 0x03E78000";
+
+    #[test]
+    fn unchanged_looks_at_the_tallies() {
+        let farewell = "  farewell 10 192.0.2.1:6000";
+        let start = format!("{REPORT} = 0\n{TWIN} = 14\n{farewell} = 14\n");
+        for step in [
+            "tally 0 = 2",
+            "tally 1 = 0",
+            "tally 64 = 0",
+            "unchanged but tally 0 = 2",
+        ] {
+            assert_eq!(
+                run::<Intake>(&format!("{start}  {step}\n")),
+                Ok(4),
+                "{step}"
+            );
+        }
+        for step in [
+            "unchanged",
+            "unchanged but tally 0 = 1",
+            "unchanged but tally 1 = 0",
+            "unchanged but tally 1 = 2",
+            "tally 0 = 1",
+            "tally 1 = 2",
+        ] {
+            assert!(fails(&format!("{start}  {step}\n")), "{step}");
+        }
+        let own = format!("{start}{REPORT} = 0\n");
+        for step in ["tally 0 = 2", "unchanged", "unchanged but tally 0 = 2"] {
+            assert_eq!(run::<Intake>(&format!("{own}  {step}\n")), Ok(5), "{step}");
+        }
+        let left = format!("{start}  farewell 10 192.0.2.1:5010 = 0\n");
+        assert_eq!(run::<Intake>(&format!("{left}  tally 0 = 0\n")), Ok(5));
+        for step in ["unchanged but tally 0 = 0", "unchanged but tally 0 = 2"] {
+            assert!(fails(&format!("{left}  {step}\n")), "{step}");
+        }
+    }
+
     #[test]
     fn steps_are_told_whether_reduced_size_was_agreed() {
         let bye = "  datagram 81CB0001 0000000A\n";
@@ -572,6 +612,14 @@ mod tests {
             "  sweeps = 0",
             "  sweep",
             "  members 1",
+            "  unchanged = 0",
+            "  unchanged but tally 0",
+            "  unchanged but tally = 0",
+            "  unchanged but 0 = 0",
+            "  unchanged but tally 0 = free",
+            "  tally 0",
+            "  tally = 0",
+            "  tally 0 = free",
             "  table = 0",
             "  reduced size",
             "  reduced size agreed = 0",

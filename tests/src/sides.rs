@@ -6,7 +6,7 @@ use crate::arrivals::Arrival;
 use crate::decoder::decode;
 use crate::encoder::Message;
 use crate::intake::{Answer, Intake};
-use crate::members::{Call, Choice, Opening, Origin, Reading, Record};
+use crate::members::{Call, Choice, Member, Opening, Origin, Reading};
 use crate::sync_group::{self, LONGEST_LINE};
 use prunepocket_sys::{count_items, item_field, Refusal, Table};
 use prunepocket_sys::{read_sync_group, write_sync_group};
@@ -28,7 +28,7 @@ pub trait Side: Clone {
     ) -> Result<Vec<u64>, Refusal>;
     fn choose(&self, reading: &Reading) -> Choice;
     fn count_members(&self) -> u64;
-    fn member_at(&self, place: usize) -> Option<Record>;
+    fn member_at(&self, place: usize) -> Option<Member>;
     fn count_items(datagram: &[u8], reduced_size: bool) -> Result<u64, Refusal>;
     /// The kind and the source of the item at an index.
     fn item_at(datagram: &[u8], reduced_size: bool, index: u64) -> Result<(u64, u64), Refusal>;
@@ -88,7 +88,7 @@ impl Side for Table {
         Table::count_members(self).into()
     }
 
-    fn member_at(&self, place: usize) -> Option<Record> {
+    fn member_at(&self, place: usize) -> Option<Member> {
         let shown = Table::member_at(self, place);
         (shown.held == 1).then_some(shown.member)
     }
@@ -161,7 +161,7 @@ impl Side for Intake {
         Intake::count_members(self) as u64
     }
 
-    fn member_at(&self, place: usize) -> Option<Record> {
+    fn member_at(&self, place: usize) -> Option<Member> {
         self.members().get(place).copied().flatten()
     }
 

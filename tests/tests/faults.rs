@@ -1,7 +1,9 @@
 //! Plants each fault in the decoder, in the encoder, in the reader and writer of
-//! site files' lines, in the register, in the rule of places and in the intake, and
-//! asserts that the comparison finds it.
+//! site files' lines, in the register, in the tallies, in the rule of places and in
+//! the intake, and asserts that the comparison finds it.
 
+use prunepocket_tests::arrivals::Course;
+use prunepocket_tests::call_history::TALLY_LIMIT;
 use prunepocket_tests::compare::{Comparison, Verdict};
 use prunepocket_tests::compare_intake::{self, IntakeComparison};
 use prunepocket_tests::compare_site_lines::LineComparison;
@@ -9,15 +11,20 @@ use prunepocket_tests::compare_table::{self, TableComparison};
 use prunepocket_tests::compare_writers::WriterComparison;
 use prunepocket_tests::encoder::Message;
 use prunepocket_tests::generator::{self, Rng};
-use prunepocket_tests::{arrivals, decoder, encoder, histories, intake, places, register};
-use prunepocket_tests::{site_lines, sync_group};
+use prunepocket_tests::histories::History;
+use prunepocket_tests::{arrivals, histories, limit_histories, site_lines};
+use prunepocket_tests::{call_history, decoder, encoder, intake, places, register, sync_group};
 use std::borrow::Borrow;
 use std::fmt::Debug;
+use std::iter::once;
 use std::process::exit;
 
 /// Each fault has to be found within so many datagrams, messages, lines,
 /// histories or courses.
 const BOUND: u64 = 20_000;
+
+/// Written tallies that a fault of the limit leaves alone.
+const BELOW_LIMIT: [u32; 2] = [TALLY_LIMIT - 1, TALLY_LIMIT - 2];
 
 /// Which datagram, message, line, history or course showed the fault, and how.
 type Found = Option<(u64, String)>;
@@ -43,6 +50,7 @@ fn main() {
         let planted = compare_table::Fault::Register(fault);
         missed |= !print_found(fault, "history", in_histories(seed, planted));
     }
+    missed |= !tallies_find_all(seed);
     missed |= !places_find_all(seed);
     for fault in intake::Fault::ALL {
         missed |= !print_found(fault, "course", in_courses(seed, fault));
@@ -69,6 +77,30 @@ fn lines_find_all(seed: u64) -> bool {
         found &= print_found(fault, "edge", in_lines(seed, fault, writings.iter(), check));
         let more = generated(seed, site_lines::writing);
         found &= print_found(fault, "writing", in_lines(seed, fault, more, check));
+    }
+    found
+}
+
+/// Each fault of the tallies is found in histories, and again in courses: those of
+/// the limit in such as raise a written tally to it.
+fn tallies_find_all(seed: u64) -> bool {
+    let of_register = register::Fault::CallHistory;
+    let of_table = |fault| compare_table::Fault::Register(of_register(fault));
+    let of_intake = |fault| intake::Fault::Register(of_register(fault));
+    let mut found = true;
+    for fault in call_history::Fault::ALL {
+        found &= print_found(fault, "history", in_histories(seed, of_table(fault)));
+        found &= print_found(fault, "course", in_courses(seed, of_intake(fault)));
+    }
+    for fault in call_history::Fault::AT_LIMIT {
+        for tally in BELOW_LIMIT {
+            let acts = limit_histories::histories(tally);
+            let in_acts = in_these_histories(seed, of_table(fault), acts);
+            found &= print_found(fault, "limit", in_acts);
+            let course = once(limit_histories::course(tally));
+            let in_course = in_these_courses(seed, of_intake(fault), course);
+            found &= print_found(fault, "limit", in_course);
+        }
     }
     found
 }
@@ -158,11 +190,19 @@ fn in_lines<I: Borrow<T>, T>(
     found.map(|(run, _, difference)| (run, difference))
 }
 
-/// The difference is that of the smallest history with the fault in it.
 fn in_histories(seed: u64, fault: compare_table::Fault) -> Found {
+    in_these_histories(seed, fault, generated(seed, histories::history))
+}
+
+/// The difference is that of the smallest history with the fault in it.
+fn in_these_histories(
+    seed: u64,
+    fault: compare_table::Fault,
+    histories: impl Iterator<Item = History>,
+) -> Found {
     let mut comparison = TableComparison::new(seed, Some(fault));
     let (run, history, _) = hunt(
-        generated(seed, histories::history),
+        histories,
         |history| comparison.check(history),
         |history| TableComparison::new(seed, None).check(history),
     )?;
@@ -171,11 +211,19 @@ fn in_histories(seed: u64, fault: compare_table::Fault) -> Found {
     difference.err().map(|difference| (run, difference))
 }
 
-/// The difference is that of the smallest course with the fault in it.
 fn in_courses(seed: u64, fault: intake::Fault) -> Found {
+    in_these_courses(seed, fault, generated(seed, arrivals::course))
+}
+
+/// The difference is that of the smallest course with the fault in it.
+fn in_these_courses(
+    seed: u64,
+    fault: intake::Fault,
+    courses: impl Iterator<Item = Course>,
+) -> Found {
     let mut comparison = IntakeComparison::new(seed, Some(fault));
     let (run, course, _) = hunt(
-        generated(seed, arrivals::course),
+        courses,
         |course| comparison.check(course),
         |course| IntakeComparison::new(seed, None).check(course),
     )?;

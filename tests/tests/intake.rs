@@ -4,12 +4,13 @@
 
 use prunepocket_tests::arrivals::{self, Course, Event};
 use prunepocket_tests::compare::hex;
-use prunepocket_tests::compare_intake::{smallest, IntakeComparison, Tally, KINDS};
+use prunepocket_tests::compare_intake::{smallest, Counts, IntakeComparison, KINDS};
+use prunepocket_tests::counts::{
+    answer_name, ask_greatest_tally, ask_step_zero, lines, print_answers, print_greatest_tally,
+    print_lines, settle, Line,
+};
 use prunepocket_tests::first_packets::FLAGS;
 use prunepocket_tests::generator::{self, Rng};
-use prunepocket_tests::tallies::{
-    answer_name, ask_step_zero, lines, print_answers, print_lines, settle, Line,
-};
 use std::process::exit;
 use std::time::Instant;
 
@@ -32,20 +33,21 @@ fn main() {
     let start = Instant::now();
     let mut rng = Rng::new(seed);
     let mut comparison = IntakeComparison::new(seed, None);
-    while comparison.tally.taken() < datagrams {
+    while comparison.counts.taken() < datagrams {
         let course = arrivals::course(&mut rng);
         if let Err(difference) = comparison.check(&course) {
-            report_mismatch(seed, comparison.tally.courses, &course, &difference);
+            report_mismatch(seed, comparison.counts.courses, &course, &difference);
             exit(1);
         }
     }
-    print_table(seed, &comparison.tally);
-    let tally = &comparison.tally;
-    let met = of_datagrams(tally).into_iter().chain(of_kinds(tally));
-    let met = met.chain(tally.firsts.type_lines());
-    settle(start, met.chain(others(tally)), datagrams / SHARE);
-    let (step_zero, reports) = (tally.step_zero, tally.calls[0].iter().sum());
+    print_table(seed, &comparison.counts);
+    let counts = &comparison.counts;
+    let met = of_datagrams(counts).into_iter().chain(of_kinds(counts));
+    let met = met.chain(counts.firsts.type_lines());
+    settle(start, met.chain(others(counts)), datagrams / SHARE);
+    let (step_zero, reports) = (counts.step_zero, counts.calls[0].iter().sum());
     ask_step_zero(step_zero, reports);
+    ask_greatest_tally(counts.greatest_tally);
 }
 
 fn report_mismatch(seed: u64, run: u64, course: &Course, difference: &str) {
@@ -56,7 +58,7 @@ fn report_mismatch(seed: u64, run: u64, course: &Course, difference: &str) {
     }
     println!("{:?}", smallest.opening);
     for event in smallest.events {
-        match event {
+        match &event {
             Event::Call(call) => println!("{call:?}"),
             Event::Arrival(arrival) => {
                 println!("{:?} {:?}", arrival.origin, arrival.reading);
@@ -64,25 +66,27 @@ fn report_mismatch(seed: u64, run: u64, course: &Course, difference: &str) {
                 println!("reduced size {}", arrival.reduced_size);
                 println!("datagram {}", hex(&arrival.datagram));
             }
+            Event::SetTally(..) => println!("{event:?}"),
         }
     }
 }
 
-fn print_table(seed: u64, tally: &Tally) {
+fn print_table(seed: u64, counts: &Counts) {
     println!();
     println!("archive and intake, seed {seed:#x}");
-    println!("{} datagrams in {} courses", tally.taken(), tally.courses);
-    print_answers("datagrams", &FLAGS, &DATAGRAM_NUMBERS, &tally.datagrams);
-    tally.firsts.print();
-    print_answers("calls", &KINDS, &CALL_NUMBERS, &tally.calls);
-    print_lines(&others(tally));
+    println!("{} datagrams in {} courses", counts.taken(), counts.courses);
+    print_answers("datagrams", &FLAGS, &DATAGRAM_NUMBERS, &counts.datagrams);
+    counts.firsts.print();
+    print_answers("calls", &KINDS, &CALL_NUMBERS, &counts.calls);
+    print_lines(&others(counts));
+    print_greatest_tally(counts.greatest_tally);
 }
 
 /// The answers that a datagram can get with each value of the flag: 4 with one.
-fn of_datagrams(tally: &Tally) -> Vec<Line> {
+fn of_datagrams(counts: &Counts) -> Vec<Line> {
     let line = |flag: usize, number: usize| {
         let name = format!("datagram {}, {}", answer_name(number), FLAGS[flag]);
-        (name, tally.datagrams[flag][number])
+        (name, counts.datagrams[flag][number])
     };
     let not_agreed = DATAGRAM_NUMBERS.map(|number| line(0, number));
     let agreed = DATAGRAM_NUMBERS.into_iter().filter(|&number| number != 4);
@@ -90,32 +94,42 @@ fn of_datagrams(tally: &Tally) -> Vec<Line> {
     not_agreed.into_iter().chain(agreed).collect()
 }
 
-fn others(tally: &Tally) -> Vec<Line> {
+fn others(counts: &Counts) -> Vec<Line> {
     let mut others = lines([
-        ("reports of step 0", tally.step_zero),
-        ("step 0 accepted", tally.step_zero_accepted),
-        ("step 0 refused 17", tally.step_zero_refused),
-        ("alike with both values", tally.alike),
-        ("refused 4 with one value", tally.beside_four),
-        ("settings passed by", tally.settings),
-        ("datagrams with accepted calls", tally.changing),
-        ("datagrams of several answers", tally.mixed),
-        ("numbers behind the calls", tally.spare),
-        ("tables without members", tally.empty_tables),
-        ("tables of 64 members", tally.full_tables),
-        ("members", tally.members),
-        ("targets", tally.targets),
-        ("choices refused 20", tally.none_fresh),
+        ("reports of step 0", counts.step_zero),
+        ("step 0 accepted", counts.step_zero_accepted),
+        ("step 0 refused 17", counts.step_zero_refused),
+        ("alike with both values", counts.alike),
+        ("refused 4 with one value", counts.beside_four),
+        ("settings passed by", counts.settings),
+        ("datagrams with accepted calls", counts.changing),
+        ("datagrams of several answers", counts.mixed),
+        ("numbers behind the calls", counts.spare),
+        ("tables without members", counts.empty_tables),
+        ("tables of 64 members", counts.full_tables),
+        ("members", counts.members),
+        ("targets", counts.targets),
+        ("choices refused 20", counts.none_fresh),
     ]);
-    others.extend(tally.joins.lines());
+    others.extend(counts.joins.lines());
+    others.extend(of_twins(counts));
     others
 }
 
+fn of_twins(counts: &Counts) -> Vec<Line> {
+    lines([
+        ("new, had a tally before", counts.rejoined),
+        ("datagrams that raise a tally", counts.raising),
+        ("the same, by more than one", counts.raising_again),
+        ("members with a tally", counts.tallied),
+    ])
+}
+
 /// The answers that each kind of call can get.
-fn of_kinds(tally: &Tally) -> Vec<Line> {
+fn of_kinds(counts: &Counts) -> Vec<Line> {
     let line = |kind: usize, number: usize| {
         let name = format!("{} {}", KINDS[kind], answer_name(number));
-        (name, tally.calls[kind][number])
+        (name, counts.calls[kind][number])
     };
     let reports = [0, 13, 14, 15, 16, 17, 18].map(|number| line(0, number));
     let farewells = [0, 14, 19].map(|number| line(1, number));

@@ -4,9 +4,9 @@
 
 use prunepocket_tests::compare::Verdict;
 use prunepocket_tests::compare_site_lines::{LineComparison, ReadTally, WriteTally};
+use prunepocket_tests::counts::{answer_name, lines, print_answers, print_lines, settle, Line};
 use prunepocket_tests::generator::{self, Rng};
 use prunepocket_tests::site_lines::{self, Kind, SiteLine, Writing};
-use prunepocket_tests::tallies::{answer_name, lines, print_answers, print_lines, settle, Line};
 use std::process::exit;
 use std::time::Instant;
 

@@ -3,10 +3,10 @@
 //! met.
 
 use prunepocket_tests::compare::{hex, Verdict};
-use prunepocket_tests::compare_writers::{Tally, WriterComparison};
+use prunepocket_tests::compare_writers::{Counts, WriterComparison};
+use prunepocket_tests::counts::{lines, settle, Line};
 use prunepocket_tests::encoder::Message;
 use prunepocket_tests::generator::{self, Rng};
-use prunepocket_tests::tallies::{lines, settle, Line};
 use std::process::exit;
 use std::time::Instant;
 
@@ -67,19 +67,19 @@ fn check_compounds(comparison: &mut WriterComparison, rng: &mut Rng, runs: u64) 
 }
 
 /// The lines of the table; every one has to be met by both writers.
-fn met(tally: &Tally) -> Vec<Line> {
+fn met(counts: &Counts) -> Vec<Line> {
     lines([
-        ("accepted", tally.accepted),
-        ("refused 10", tally.short_buffer),
-        ("refused 11", tally.out_of_range),
-        ("read back behind RR, flag 0", tally.read_back[0]),
-        ("read back behind RR, flag 1", tally.read_back[1]),
-        ("read back alone, flag 1", tally.read_alone),
-        ("refused 4 alone, flag 0", tally.refused_alone),
-        ("items written back, flag 0", tally.written_back[0]),
-        ("items written back, flag 1", tally.written_back[1]),
-        ("of these, without SR or RR", tally.written_from_reduced),
-        ("items not written back (11)", tally.not_written_back),
+        ("accepted", counts.accepted),
+        ("refused 10", counts.short_buffer),
+        ("refused 11", counts.out_of_range),
+        ("read back behind RR, flag 0", counts.read_back[0]),
+        ("read back behind RR, flag 1", counts.read_back[1]),
+        ("read back alone, flag 1", counts.read_alone),
+        ("refused 4 alone, flag 0", counts.refused_alone),
+        ("items written back, flag 0", counts.written_back[0]),
+        ("items written back, flag 1", counts.written_back[1]),
+        ("of these, without SR or RR", counts.written_from_reduced),
+        ("items not written back (11)", counts.not_written_back),
     ])
 }
 

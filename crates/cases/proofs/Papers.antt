@@ -3,23 +3,25 @@ use mathlib.Core.Path.{refl}
 use lib.Count.{trailingZeros}
 use Rattle.times.specs.Times.{differenceMod, step, unwrapped, expanded, delay}
 use Rattle.origin.specs.Origins.{sameBytes, sameOrigin}
-use Rattle.places.specs.Places.{isHeld, heldIn, lowestFree, withPlace}
-use Rattle.register.specs.Register.{reportChecks}
+use Rattle.places.specs.Places.{isHeld, heldIn, lowestFree, withPlace, withoutPlace}
+use Rattle.register.specs.Register.{reportChecks, farewellChecks}
+use Rattle.register.specs.Tallies.{rowsOf}
 use Rattle.register.specs.Choosing.{lateness}
-use Rattle.choosing.specs.Marked.{rowsAt, filterWord}
+use Rattle.choosing.specs.Marked.{markedAt, filterWord}
 use Rattle.choosing.specs.Latest.{latest}
 use Rattle.choosing.specs.Choose.{latestTarget, choiceAmong}
-use Rattle.table.specs.Members.{emptyTable, placeOf}
-use Rattle.table.specs.Calls.{opened, numberOf, filed, answered}
+use Rattle.table.specs.Members.{emptyTable, placeAt, placeOf}
+use Rattle.table.specs.Calls.{opened, numberOf, filed, refusedBy, answered}
 use Rattle.table.specs.Choose.{choiceOf}
-use Rattle.table.specs.History.{tableFrom}
+use Rattle.table.specs.History.{answersFrom, tableFrom}
 use Rattle.writer.specs.Messages.{reportIsUnwritable}
 use Rattle.cases.specs.Cases.{papers, AllHold}
 
 pub papers-hold : AllHold papers
 unfolding AllHold papers differenceMod step unwrapped expanded delay sameBytes sameOrigin trailingZeros isHeld heldIn
-    lowestFree withPlace reportChecks lateness latest emptyTable rowsAt placeOf filterWord opened numberOf filed
-    answered latestTarget choiceAmong choiceOf tableFrom reportIsUnwritable
+    lowestFree withPlace withoutPlace reportChecks farewellChecks rowsOf lateness latest emptyTable markedAt placeAt
+    placeOf filterWord opened numberOf filed refusedBy answered latestTarget choiceAmong choiceOf answersFrom tableFrom
+    reportIsUnwritable
 papers-hold = (
   (refl, refl),
   (
@@ -44,7 +46,10 @@ papers-hold = (
                       (refl, refl, refl),
                       (
                         (refl, refl, refl),
-                        ((refl, refl, refl), tt),
+                        (
+                          (refl, refl, refl),
+                          ((refl, refl, refl), ((refl, refl, refl, refl), tt)),
+                        ),
                       ),
                     ),
                   ),

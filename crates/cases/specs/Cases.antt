@@ -1,5 +1,5 @@
--- The bench cases of document 01 that are marked P, and those of document 02, E3, as one list of statements about the
--- definitions.
+-- The bench cases of document 01 that are marked P, and those of document 02, E3 and E5, as one list of statements
+-- about the definitions.
 use Prim.Native.Nat.{ℕ, _+_, _-_, _*_, _^_}
 use mathlib.Core.Bool.{false}
 use mathlib.Core.List.{List, [], _∷_}
@@ -18,9 +18,10 @@ use Rattle.register.specs.declared.Target.{Target}
 use Rattle.register.specs.Register.{Opening, Call, presents}
 use Rattle.register.specs.Choosing.{latenessOf}
 use Rattle.table.specs.declared.Table.{Table}
-use Rattle.table.specs.Calls.{opened, answered}
+use Rattle.table.specs.Members.{placeAt}
+use Rattle.table.specs.Calls.{opened, withMember, answered}
 use Rattle.table.specs.Choose.{choiceOf}
-use Rattle.table.specs.History.{tableFrom}
+use Rattle.table.specs.History.{answersFrom, tableFrom}
 use Rattle.writer.specs.Messages.{reportMessage, settingsMessage}
 
 -- ---- the table and the reading of every case that states no other
@@ -39,22 +40,26 @@ abbrev pub originAt : ℕ → Origin
 originAt n =
     record { address = 0 ∷ 0 ∷ 0 ∷ 0 ∷ 0 ∷ 0 ∷ 0 ∷ 0 ∷ 0 ∷ 0 ∷ 255 ∷ 255 ∷ 192 ∷ 0 ∷ 2 ∷ 1 ∷ []; port = n }
 
--- a report with P 1 and payload type 33 from a port of its own
-abbrev pub member : (source received rtp presented : ℕ) → Record
-member source received rtp presented =
+-- a report with P 1 and payload type 33, of a group and from a port
+abbrev pub reportFrom : (group port source received rtp presented : ℕ) → Record
+reportFrom group port source received rtp presented =
     record {
       source = source;
-      origin = originAt (5000 + source);
+      origin = originAt port;
       report = record {
         «payload_type» = 33;
         p = 1;
-        group = 42;
+        group = group;
         media = 7;
         received = received;
         rtp = rtp;
         presented = presented;
       };
     }
+
+-- of the table's group and from a port of its own
+abbrev pub member : (source received rtp presented : ℕ) → Record
+member source received rtp presented = reportFrom 42 (5000 + source) source received rtp presented
 
 abbrev pub ten : Record
 ten = member 10 (seconds 999) 8910000 0x03E78000
@@ -242,9 +247,51 @@ E3AllOnes =
     × (expanded 0xFFFFFFFFFFFFFFFF 0xFFFFFFFF ≡ 0)
     × (numberAt wrapped (member 10 0xFFFFFFFFFFFFFFFF 9000000 0xFFFFFFFF) ≡ 17)
 
+-- P1's report from another port, of any group
+abbrev pub twinOf : ℕ → Record
+twinOf group = reportFrom group 6000 10 (seconds 999) 8910000 0x03E78000
+
+abbrev pub twinCalls : List Call
+twinCalls =
+    Call.report ten reading
+    ∷ Call.report (twinOf 42) reading
+    ∷ Call.farewell 10 (originAt 6000)
+    ∷ Call.report (twinOf 43) reading
+    ∷ Call.report ten reading
+    ∷ []
+
+-- what the first place shows as the tally
+abbrev pub firstTally : Table → ℕ
+firstTally t = placeAt t 0 .member .tally
+
+-- document 02, E5: behind P1's report, that of its twin and its farewell are refused with 14, and one of another group
+-- with 13; a tally of 2, also behind P1's own next report. It leaves and joins anew: 0.
+abbrev pub E5Tallied : Type 0
+E5Tallied =
+    (answersFrom (opened opening .table) twinCalls ≡ 0 ∷ 14 ∷ 14 ∷ 13 ∷ 0 ∷ [])
+    × (firstTally (tableFrom (opened opening .table) twinCalls) ≡ 2)
+    × (firstTally
+    (tableFrom (tableFrom (opened opening .table) twinCalls)
+    (Call.farewell 10 (ten .origin) ∷ Call.report ten reading ∷ [])) ≡ 0)
+
+-- a table value with P1's report at the first place and this tally
+abbrev pub withTally : ℕ → Table
+withTally n =
+    withMember (tableFrom (opened opening .table) (Call.report ten reading ∷ [])) 0
+    (record { «record» = ten; tally = n })
+
+-- document 02, E5: the tally stops at 4,294,967,295, by report and by farewell
+abbrev pub E5Limit : Type 0
+E5Limit =
+    (firstTally (answered (withTally 4294967294) (Call.report (twinOf 42) reading) .table) ≡ 4294967295)
+    × (firstTally (answered (withTally 4294967295) (Call.report (twinOf 42) reading) .table) ≡ 4294967295)
+    × (firstTally (answered (withTally 4294967294) (Call.farewell 10 (originAt 6000)) .table) ≡ 4294967295)
+    × (firstTally (answered (withTally 4294967295) (Call.farewell 10 (originAt 6000)) .table) ≡ 4294967295)
+
 -- all of them
 unfoldable pub papers : List (Type 0)
-papers = P1 ∷ P2 ∷ P3 ∷ P4 ∷ P5 ∷ P6 ∷ P7 ∷ P8 ∷ P9 ∷ P10 ∷ E3Wired ∷ E3Chosen ∷ E3AllOnes ∷ []
+papers =
+    P1 ∷ P2 ∷ P3 ∷ P4 ∷ P5 ∷ P6 ∷ P7 ∷ P8 ∷ P9 ∷ P10 ∷ E3Wired ∷ E3Chosen ∷ E3AllOnes ∷ E5Tallied ∷ E5Limit ∷ []
 
 -- every statement of a list is true
 unfoldable pub AllHold : List (Type 0) → Type 0

@@ -15,35 +15,36 @@ use Rattle.register.proofs.Unique.{unique-permuted}
 use Rattle.register.proofs.Permuted.{choice-permuted}
 use Rattle.register.proofs.Stands.{Sound}
 use Rattle.register.proofs.Promised.{choice-none, choice-of, choice-promised}
-use Rattle.choosing.specs.Marked.{rowsAt}
+use Rattle.choosing.specs.Marked.{markedAt}
 use Rattle.choosing.specs.Choose.{arrives, countedWord, latestTarget, choiceAmong}
-use Rattle.choosing.proofs.Laws.Marked.{rows-filterWord, word-none, ones-of-rows}
+use Rattle.choosing.proofs.Laws.Marked.{marked-filterWord, word-none, ones-of-rows}
 use Rattle.choosing.proofs.Laws.Latest.{latest-chosen}
 
 -- ---- the counted word
 
 arrives-arrival :
-    (o : Opening) (at : Reading) (word : ℕ) (ms : Rows) → arrives (o .rate) at word ms ≡ isArrival o at (rowsAt word ms)
+    (o : Opening) (at : Reading) (word : ℕ) (ms : Rows) →
+    arrives (o .rate) at word ms ≡ isArrival o at (markedAt word ms)
 arrives-arrival o at word ms =
     word-none (λ m. freshAt o at m && presents m) word ms
-    ∙ ap not (any-both (freshAt o at) presents (rowsAt word ms))
+    ∙ ap not (any-both (freshAt o at) presents (markedAt word ms))
 
 counted-rows :
     (o : Opening) (at : Reading) (word : ℕ) (ms : Rows) →
-    rowsAt (countedWord (o .rate) at word ms) ms ≡ counted o at (rowsAt word ms)
+    markedAt (countedWord (o .rate) at word ms) ms ≡ counted o at (markedAt word ms)
 counted-rows o at word ms = go (arrives (o .rate) at word ms) refl
   where
     go :
         (b : Bool) → arrives (o .rate) at word ms ≡ b →
-        rowsAt (countedWord (o .rate) at word ms) ms ≡ counted o at (rowsAt word ms)
+        markedAt (countedWord (o .rate) at word ms) ms ≡ counted o at (markedAt word ms)
     go true e =
-        let arrival : isArrival o at (rowsAt word ms) ≡ true = sym (arrives-arrival o at word ms) ∙ e in
-        rw (e, arrival) (rows-filterWord (freshAt o at) word ms)
+        let arrival : isArrival o at (markedAt word ms) ≡ true = sym (arrives-arrival o at word ms) ∙ e in
+        rw (e, arrival) (marked-filterWord (freshAt o at) word ms)
     go false e =
-        let arrival : isArrival o at (rowsAt word ms) ≡ false = sym (arrives-arrival o at word ms) ∙ e in
+        let arrival : isArrival o at (markedAt word ms) ≡ false = sym (arrives-arrival o at word ms) ∙ e in
         rw (e, arrival)
-        (rows-filterWord (λ m. freshAt o at m && presents m) word ms
-        ∙ filter-both (freshAt o at) presents (rowsAt word ms))
+        (marked-filterWord (λ m. freshAt o at m && presents m) word ms
+        ∙ filter-both (freshAt o at) presents (markedAt word ms))
 
 -- ---- the choice
 
@@ -58,30 +59,30 @@ choice-latest o at rows (a ∷ rest) e =
 -- of the members at places that a word marks
 choice-of-marked :
     (o : Opening) (at : Reading) (held : ℕ) (ms : Rows) → length ms ≡ 64 →
-    choiceAmong (o .rate) at held ms ≡ choice o at (rowsAt held ms)
+    choiceAmong (o .rate) at held ms ≡ choice o at (markedAt held ms)
 unfolding choiceAmong
 choice-of-marked o at held ms long =
     let word : ℕ = countedWord (o .rate) at held ms in
-    let rows : rowsAt word ms ≡ counted o at (rowsAt held ms) = counted-rows o at held ms in
-    let count : heldIn 64 word ≡ length (rowsAt word ms) =
+    let rows : markedAt word ms ≡ counted o at (markedAt held ms) = counted-rows o at held ms in
+    let count : heldIn 64 word ≡ length (markedAt word ms) =
     ap (λ (k : ℕ). heldIn k word) (sym long) ∙ ones-of-rows word ms in
-    ap (λ (n : ℕ). latestTarget (latenessOf o at) n (rowsAt word ms)) count
+    ap (λ (n : ℕ). latestTarget (latenessOf o at) n (markedAt word ms)) count
     ∙ ap (λ (those : Rows). latestTarget (latenessOf o at) (length those) those) rows
-    ∙ choice-latest o at (rowsAt held ms) (counted o at (rowsAt held ms)) refl
+    ∙ choice-latest o at (markedAt held ms) (counted o at (markedAt held ms)) refl
 
 -- ---- what demand 3 says of choosing
 
 -- Of 64 places whose members, as a word marks them, are the register's rows in any order, each number once: the choice
 -- at any reading is the register's.
 pub chosen-alike :
-    (o : Opening) (at : Reading) (held : ℕ) (ms rows : Rows) → length ms ≡ 64 → List·Permᴰ (rowsAt held ms) rows →
+    (o : Opening) (at : Reading) (held : ℕ) (ms rows : Rows) → length ms ≡ 64 → List·Permᴰ (markedAt held ms) rows →
     Unique rows → choiceAmong (o .rate) at held ms ≡ choice o at rows
 chosen-alike o at held ms rows long same unique =
     choice-of-marked o at held ms long ∙ choice-permuted o at same (unique-permuted (Permᴰ·symm same) unique)
 
 -- And where each row stands on an accepted report, the choice is what the customer is promised.
 pub chosen-promised :
-    (o : Opening) (at : Reading) (held : ℕ) (ms rows : Rows) → length ms ≡ 64 → List·Permᴰ (rowsAt held ms) rows →
+    (o : Opening) (at : Reading) (held : ℕ) (ms rows : Rows) → length ms ≡ 64 → List·Permᴰ (markedAt held ms) rows →
     Unique rows → Sound o rows → Promised o at rows (choiceAmong (o .rate) at held ms)
 chosen-promised o at held ms rows long same unique sound =
     rw (chosen-alike o at held ms rows long same unique) (choice-promised o at rows sound)

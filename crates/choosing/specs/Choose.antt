@@ -1,5 +1,5 @@
 -- Choosing among members at places, of which a word marks those held: one pass marks the counted members, another finds
--- the latest. Of a table, choosing looks at the rate, the word and the members.
+-- the latest. Of a table, choosing looks at the rate, the word and the members' records.
 use Prim.Native.Nat.{ℕ}
 use mathlib.Core.Bool.{Bool, cond, _&&_}
 use mathlib.Core.List.{[], _∷_}
@@ -14,7 +14,7 @@ use Rattle.register.specs.Register.{Opening, Rows, presents, freshAt}
 use Rattle.register.specs.Choosing.{latenessOf, targetOf}
 use Rattle.choosing.specs.Latest.{latest}
 use Rattle.choosing.specs.declared.Marks.{Marks}
-use Rattle.choosing.specs.Marked.{rowsAt, filterWord}
+use Rattle.choosing.specs.Marked.{markedAt, filterWord}
 
 -- an opening at a rate: freshness and lateness look at no more of one
 abbrev pub atRate : ℕ → Opening
@@ -52,7 +52,7 @@ latestTarget late count (row ∷ rows) = targetOf (latest late row rows) count
 
 -- the latest of the members that a word marks, all of them counted
 abbrev pub choiceIn : ℕ → Reading → ℕ → Rows → Choice
-choiceIn rate at word members = latestTarget (latenessOf (atRate rate) at) (heldIn 64 word) (rowsAt word members)
+choiceIn rate at word members = latestTarget (latenessOf (atRate rate) at) (heldIn 64 word) (markedAt word members)
 
 -- the choice at a rate and a reading
 unfoldable pub choiceAmong : ℕ → Reading → ℕ → Rows → Choice

@@ -16,7 +16,7 @@ use Rattle.choosing.specs.Latest.{latest}
 use Rattle.choosing.specs.declared.Late.{Late}
 use Rattle.choosing.specs.declared.Candidate.{Candidate}
 use Rattle.places.specs.Places.{isFree}
-use Rattle.choosing.specs.Marked.{rowsAt, nowhere}
+use Rattle.choosing.specs.Marked.{markedAt, nowhere}
 use Rattle.choosing.specs.Choose.{latestTarget}
 
 -- lateness and 30 s more, which for a fresh row is not below 0: rate × (delay + 30 s − NTP age) + RTP age × 2^32
@@ -71,4 +71,4 @@ abbrev pub IsLatest : ℕ → Reading → ℕ → Rows → ℕ → Type 0
 IsLatest rate at word members place =
     (count : ℕ) →
     latestTargetFrom (biasedLate rate at) count members place []
-    ≡ latestTarget (biasedLate rate at) count (rowsAt word members)
+    ≡ latestTarget (biasedLate rate at) count (markedAt word members)

@@ -4,7 +4,7 @@ use mathlib.Core.Bool.{Bool, not, cond, _&&_}
 use mathlib.Core.List.{List, [], _∷_}
 use Rattle.places.specs.Places.{isFree, bit}
 use Rattle.register.specs.declared.Record.{Record}
-use Rattle.register.specs.Register.{Rows}
+use Rattle.register.specs.declared.Member.{Member}
 
 -- a record of zeros, its address of any bytes
 abbrev pub zeros : List ℕ → Record
@@ -27,12 +27,16 @@ zeros address =
 abbrev pub nowhere : Record
 nowhere = zeros []
 
--- the members at the places that a word marks, in the order of places
-unfoldable pub rowsAt : ℕ → Rows → Rows
-rowsAt word [] = []
-rowsAt word (m ∷ ms) = let rest = rowsAt (word / 2) ms in cond (isFree word) rest (m ∷ rest)
+-- the same as a member
+abbrev pub nobody : Member
+nobody = record { «record» = nowhere; tally = 0 }
 
--- the word that marks those of the places whose member passes a test
-unfoldable pub filterWord : (Record → Bool) → ℕ → Rows → ℕ
+-- what stands at the places that a word marks, rows or members, in the order of places
+unfoldable pub markedAt : {A : Type 0} → ℕ → List A → List A
+markedAt word [] = []
+markedAt word (m ∷ ms) = let rest = markedAt (word / 2) ms in cond (isFree word) rest (m ∷ rest)
+
+-- the word that marks those of the places at which what stands passes a test
+unfoldable pub filterWord : {A : Type 0} → (A → Bool) → ℕ → List A → ℕ
 filterWord test word [] = 0
 filterWord test word (m ∷ ms) = bit (not (isFree word) && test m) + 2 * filterWord test (word / 2) ms

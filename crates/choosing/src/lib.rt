@@ -3,6 +3,7 @@ use places::count_held;
 use places::with_place;
 use refusals::NONE_COUNTED;
 use register::Choice;
+use register::Member;
 use register::Reading;
 use register::Record;
 use register::Target;
@@ -19,7 +20,8 @@ ghost use Rattle.places.specs.Places.{isFree, heldIn, bit};
 ghost use Rattle.times.specs.Times.{expanded};
 ghost use Rattle.register.specs.Register.{presents, freshAt};
 ghost use Rattle.register.specs.Choosing.{delayOf, targetOf};
-ghost use Rattle.choosing.specs.Marked.{rowsAt};
+ghost use Rattle.register.specs.Tallies.{rowsOf};
+ghost use Rattle.choosing.specs.Marked.{markedAt};
 ghost use Rattle.choosing.specs.Choose.{atRate, marksAt, countedIn, latestTarget, choiceAmong};
 ghost use Rattle.choosing.specs.Lateness.{biased, biasedLate, inTwo, candidateAt, staysLatest, latestNext};
 ghost use Rattle.choosing.specs.Lateness.{IsLatest};
@@ -75,15 +77,16 @@ fn with_bit(word: u64, i: usize, yes: bool) -> u64
 }
 
 // Each place in turn: the word's lowest bit marks it, and the word is halved.
-pub fn marks_at(held: u64, members: [Record; 64], rate: u32, at: Reading) -> Marks
-    ensures { λ r. ⌜ r ≡ marksAt rate at held members ⌝ }
+pub fn marks_at(held: u64, members: [Member; 64], rate: u32, at: Reading) -> Marks
+    ensures { λ r. ⌜ r ≡ marksAt rate at held (rowsOf members) ⌝ }
 {
     let mut fresh: u64 = 0;
     let mut presenting: u64 = 0;
     let mut word = held;
     let mut i: usize = 0;
     while i < 64 {
-        let row = members[i];
+        let member = members[i];
+        let row = member.record;
         let yes = is_marked_fresh(word, row, rate, at);
         fresh = with_bit(fresh, i, yes);
         presenting = with_bit(presenting, i, both(yes, row.report.p != 0));
@@ -129,9 +132,10 @@ fn delay_of(row: Record) -> u64
 }
 
 // The member at a place, as a candidate.
-fn candidate_at(place: usize, row: Record, rate: u32, at: Reading) -> Candidate
-    ensures { λ r. ⌜ r ≡ candidateAt rate at place row ⌝ }
+fn candidate_at(place: usize, member: Member, rate: u32, at: Reading) -> Candidate
+    ensures { λ r. ⌜ r ≡ candidateAt rate at place (member .«record») ⌝ }
 {
+    let row = member.record;
     let delay = delay_of(row);
     let age = ntp_age(at.ntp, row.report.received);
     let ticks = rtp_age(at.rtp, row.report.rtp);
@@ -139,7 +143,7 @@ fn candidate_at(place: usize, row: Record, rate: u32, at: Reading) -> Candidate
     Candidate {
         place,
         late,
-        source: row.source,
+        source: member.record.source,
     }
 }
 
@@ -171,17 +175,17 @@ fn latest_next(
     word: u64,
     latest: Candidate,
     place: usize,
-    row: Record,
+    member: Member,
     rate: u32,
     at: Reading,
 ) -> Candidate
     requires { ⌜ latest .late .part < 2 ^ 32 ⌝ }
-    ensures { λ r. ⌜ r ≡ latestNext word latest (candidateAt rate at place row) ⌝ }
+    ensures { λ r. ⌜ r ≡ latestNext word latest (candidateAt rate at place (member .«record»)) ⌝ }
 {
     if word % 2 == 0 {
         return latest;
     }
-    let next = candidate_at(place, row, rate, at);
+    let next = candidate_at(place, member, rate, at);
     if stays_latest(latest, next) {
         return latest;
     }
@@ -189,8 +193,8 @@ fn latest_next(
 }
 
 // The place of the latest of the members that a word marks, or 64 where it marks none.
-fn latest_place(word: u64, members: [Record; 64], rate: u32, at: Reading) -> usize
-    ensures { λ r. ⌜ IsLatest rate at word members r ⌝ }
+fn latest_place(word: u64, members: [Member; 64], rate: u32, at: Reading) -> usize
+    ensures { λ r. ⌜ IsLatest rate at word (rowsOf members) r ⌝ }
 {
     let mut latest = Candidate {
         place: 64,
@@ -234,14 +238,15 @@ fn target_of(row: Record, counted: u32) -> Choice
 }
 
 // The latest of the members that a word marks, all of them counted, or 20 where it marks none.
-fn choice_in(word: u64, members: [Record; 64], rate: u32, at: Reading) -> Choice
-    ensures { λ r. ⌜ r ≡ latestTarget (biasedLate rate at) (heldIn 64 word) (rowsAt word members) ⌝ }
+fn choice_in(word: u64, members: [Member; 64], rate: u32, at: Reading) -> Choice
+    ensures { λ r. ⌜ r ≡ latestTarget (biasedLate rate at) (heldIn 64 word) (markedAt word (rowsOf members)) ⌝ }
 {
     let place = latest_place(word, members, rate, at);
     if 64 <= place {
         return Choice::Refused(NONE_COUNTED);
     }
-    target_of(members[place], count_held(word))
+    let member = members[place];
+    target_of(member.record, count_held(word))
 }
 
 // The members that report presentation count; where none does, all that are fresh, in arrival mode.
@@ -255,8 +260,8 @@ fn counted_word(marks: Marks) -> u64
 }
 
 // The target among the members at the places held, or 20.
-pub fn choice_at(held: u64, members: [Record; 64], rate: u32, at: Reading) -> Choice
-    ensures { λ r. ⌜ r ≡ choiceAmong rate at held members ⌝ }
+pub fn choice_at(held: u64, members: [Member; 64], rate: u32, at: Reading) -> Choice
+    ensures { λ r. ⌜ r ≡ choiceAmong rate at held (rowsOf members) ⌝ }
 {
     let marks = marks_at(held, members, rate, at);
     choice_in(counted_word(marks), members, rate, at)

@@ -14,8 +14,10 @@ use Rattle.idms.specs.declared.Placed.{Placed}
 use Rattle.origin.specs.declared.Origin.{Origin}
 use Rattle.register.specs.declared.Reading.{Reading}
 use Rattle.datagram.specs.declared.Count.{Count}
-use Rattle.register.specs.Register.{Opening, Rows, Call, answer, answers, afterAll}
+use Rattle.register.specs.Register.{Opening, Call, answer, answers, afterAll}
+use Rattle.register.specs.Tallies.{Members, rowsOf, membersAfterAll}
 use Rattle.register.specs.Promise.{AllInRange}
+use Rattle.register.proofs.Tallies.{rows-after-all}
 use Rattle.register.proofs.History.{length-answers, answers-append, ranges-append}
 use Rattle.table.specs.declared.Table.{Table}
 use Rattle.table.specs.Calls.{answered}
@@ -99,18 +101,18 @@ answers-behind o calls more =
 
 -- Of every datagram of bytes all calls are made, and answered as the register answers them, or none is.
 pub datagram-reached : EveryDatagram
-unfolding datagramAnswered answersAfter
-datagram-reached o calls t rows here reduced d h origin at lent =
+unfolding datagramAnswered answersAfter rowsOf
+datagram-reached o calls t ms here reduced d h origin at lent =
     record {
       made = λ check room.
           let more = datagramCalls d origin at in
           let ranges : AllInRange more = datagram-in-range reduced d origin at h check in
           let enough : ltb (length lent) (length more) ≡ false = le-ltb (length lent) (length more) room in
-          let behind : drop (length calls) (answers o [] (calls ++ more)) ≡ answers o rows more =
-          rw (here .rows-are) (answers-behind o calls more) in
+          let behind : drop (length calls) (answers o [] (calls ++ more)) ≡ answers o (rowsOf ms) more =
+          rw (here .members-are, rows-after-all o [] calls) (answers-behind o calls more) in
           record {
-            reached = rw (check, enough) (reached-further o calls t rows more here ranges);
-            numbers = rw (check, enough, behind, reached-answers o calls t rows more here) refl;
+            reached = rw (check, enough) (reached-further o calls t ms more here ranges);
+            numbers = rw (check, enough, behind, reached-answers o calls t ms more here) refl;
             number = rw (check, enough) refl;
             place = rw (check, enough) refl;
             count = rw (check, enough) refl;
@@ -134,26 +136,26 @@ datagram-reached o calls t rows here reduced d h origin at lent =
           };
     }
 
-module _ (o : Opening) (calls : List Call) (t : Table) (rows : Rows) (here : Reached o calls t rows) where
-  call-made : (call : Call) → AllInRange (call ∷ []) → OneMade o calls t rows call (callTaken t call)
-  unfolding tableFrom answersFrom afterAll answers
+module _ (o : Opening) (calls : List Call) (t : Table) (ms : Members) (here : Reached o calls t ms) where
+  call-made : (call : Call) → AllInRange (call ∷ []) → OneMade o calls t ms call (callTaken t call)
+  unfolding tableFrom answersFrom membersAfterAll answers
   call-made call ranges =
-      let same : answered t call .number ∷ [] ≡ answer o rows call ∷ [] =
-      reached-answers o calls t rows (call ∷ []) here in
-      record { reached = reached-further o calls t rows (call ∷ []) here ranges; outcome = cc }
+      let same : answered t call .number ∷ [] ≡ answer o (rowsOf ms) call ∷ [] =
+      reached-answers o calls t ms (call ∷ []) here in
+      record { reached = reached-further o calls t ms (call ∷ []) here ranges; outcome = cc }
 
 -- Every item of it, taken in by its index, is one call, answered as the register answers it, or changes nothing.
 pub item-reached : EveryItem
 unfolding taken
-item-reached o calls t rows here reduced d h index origin at =
+item-reached o calls t ms here reduced d h index origin at =
     record {
       report = λ place r e. made (item-in-range d origin at h (item-read reduced d index _ e));
       farewell = λ place source e. made (item-in-range d origin at h (item-read reduced d index _ e));
       settings = λ place s e. refl;
     }
   where
-    made : {call : Call} → AllInRange (call ∷ []) → OneMade o calls t rows call (callTaken t call)
-    made {call} = call-made o calls t rows here call
+    made : {call : Call} → AllInRange (call ∷ []) → OneMade o calls t ms call (callTaken t call)
+    made {call} = call-made o calls t ms here call
 
 -- ---- reduced size
 

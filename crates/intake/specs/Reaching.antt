@@ -18,7 +18,8 @@ use Rattle.packet.specs.Bytes.{AreBytes}
 use Rattle.datagram.specs.Datagram.{datagramCheck, datagramItems}
 use Rattle.rtcp.specs.Answers.{itemOf}
 use Rattle.register.specs.declared.Reading.{Reading}
-use Rattle.register.specs.Register.{Opening, Rows, Call, answer, after, answers, afterAll}
+use Rattle.register.specs.Register.{Opening, Call, answer, answers}
+use Rattle.register.specs.Tallies.{Members, rowsOf, membersAfter, membersAfterAll}
 use Rattle.table.specs.declared.Outcome.{Outcome}
 use Rattle.table.specs.declared.Table.{Table}
 use Rattle.table.specs.declared.Taken.{Taken}
@@ -35,14 +36,14 @@ datagramCalls d origin at = callsIn origin at (datagramItems d)
 -- a table that calls reached; whether reduced size was agreed; a datagram with its origin and its reading; and the list
 -- lent for the numbers
 module _
-    (o : Opening) (calls : List Call) (t : Table) (rows : Rows)
+    (o : Opening) (calls : List Call) (t : Table) (members : Members)
     (reduced : Bool) (d : List ℕ) (origin : Origin) (at : Reading) (lent : List ℕ) where
   -- the datagram's calls are made
   pub record AllMade : Type 0 where
     -- the table is reached by the calls before and then the datagram's
     pub reached :
         Reached o (calls ++ datagramCalls d origin at) (datagramAnswered t reduced d origin at lent .table)
-        (afterAll o rows (datagramCalls d origin at))
+        (membersAfterAll o members (datagramCalls d origin at))
     -- the register's answers to them, which are behind those to the calls before, are put into the list; behind them
     -- it is as it was
     pub numbers :
@@ -58,7 +59,7 @@ module _
   -- no call is made, and the answer is this refusal
   pub record NoneMade (refusal at-byte : ℕ) : Type 0 where
     -- the table is reached by the calls before alone
-    pub reached : Reached o calls (datagramAnswered t reduced d origin at lent .table) rows
+    pub reached : Reached o calls (datagramAnswered t reduced d origin at lent .table) members
     -- the list is as it was
     pub numbers : answersAfter t reduced d origin at lent ≡ lent
     pub number : datagramAnswered t reduced d origin at lent .number ≡ refusal
@@ -78,20 +79,20 @@ module _
 -- from every reached table, of every datagram of bytes, whether or not reduced size was agreed
 abbrev pub EveryDatagram : Type 0
 EveryDatagram =
-    (o : Opening) (calls : List Call) (t : Table) (rows : Rows) → Reached o calls t rows →
+    (o : Opening) (calls : List Call) (t : Table) (members : Members) → Reached o calls t members →
     (reduced : Bool) (d : List ℕ) → AreBytes d → (origin : Origin) (at : Reading) (lent : List ℕ) →
-    DatagramReached o calls t rows reduced d origin at lent
+    DatagramReached o calls t members reduced d origin at lent
 
 -- ---- the item at an index
 
 -- a table that calls reached, and what the intake makes of an item
-module _ (o : Opening) (calls : List Call) (t : Table) (rows : Rows) where
+module _ (o : Opening) (calls : List Call) (t : Table) (members : Members) where
   -- one call is made
   pub record OneMade (call : Call) (result : Taken) : Type 0 where
     -- the table is reached by the calls before and this one
-    pub reached : Reached o (calls ++ call ∷ []) (result .table) (after o rows call)
+    pub reached : Reached o (calls ++ call ∷ []) (result .table) (membersAfter o members call)
     -- the outcome is the register's answer to it
-    pub outcome : result .outcome ≡ Outcome.Number (answer o rows call)
+    pub outcome : result .outcome ≡ Outcome.Number (answer o (rowsOf members) call)
 
   -- what demand 3 says of the item that reading gives at an index: a report or a farewell is a call, and settings leave
   -- the table as it was
@@ -110,6 +111,6 @@ module _ (o : Opening) (calls : List Call) (t : Table) (rows : Rows) where
 -- from every reached table, of every datagram of bytes, whether or not reduced size was agreed, at every index
 abbrev pub EveryItem : Type 0
 EveryItem =
-    (o : Opening) (calls : List Call) (t : Table) (rows : Rows) → Reached o calls t rows →
+    (o : Opening) (calls : List Call) (t : Table) (members : Members) → Reached o calls t members →
     (reduced : Bool) (d : List ℕ) → AreBytes d → (index : ℕ) (origin : Origin) (at : Reading) →
-    ItemReached o calls t rows reduced d index origin at
+    ItemReached o calls t members reduced d index origin at

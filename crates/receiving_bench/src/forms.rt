@@ -63,22 +63,26 @@ pub(crate) const PLACE: usize = 28;
 
 pub(crate) const PLACE_FREE: usize = 29;
 
-pub(crate) const UNCHANGED: usize = 30;
+pub(crate) const TALLY: usize = 30;
 
-pub(crate) const WRITE_REPORT: usize = 31;
+pub(crate) const UNCHANGED: usize = 31;
 
-pub(crate) const WRITE_SETTINGS: usize = 32;
+pub(crate) const UNCHANGED_BUT: usize = 32;
 
-pub(crate) const READ_LINE: usize = 33;
+pub(crate) const WRITE_REPORT: usize = 33;
 
-pub(crate) const READ_LINE_REFUSED: usize = 34;
+pub(crate) const WRITE_SETTINGS: usize = 34;
 
-pub(crate) const WRITE_LINE: usize = 35;
+pub(crate) const READ_LINE: usize = 35;
 
-pub(crate) const WRITE_LINE_REFUSED: usize = 36;
+pub(crate) const READ_LINE_REFUSED: usize = 36;
+
+pub(crate) const WRITE_LINE: usize = 37;
+
+pub(crate) const WRITE_LINE_REFUSED: usize = 38;
 
 // The form of a line that is no step, and of a step that has none of the forms.
-pub(crate) const PROSE: usize = 37;
+pub(crate) const PROSE: usize = 39;
 
 // The step at a place, with the answer that it expects. In a form # is a number, @ a time, % an origin, ? a report's
 // presented field, ! a target's presented time, & answers of calls, * words of hex, " a text; all else stands for
@@ -115,7 +119,9 @@ pub(crate) fn matched(s: &[u8], at: usize) -> Line {
           members = #\n\
           place # = # %\n\
           place # = free\n\
+          tally # = #\n\
           unchanged\n\
+          unchanged but tally # = #\n\
           write report =*\n\
           write settings # =*\n\
           line \" = #\n\
@@ -160,7 +166,9 @@ pub(crate) fn print_came(line: Line, s: &[u8]) {
           \x20 members: $n0\n\
           \x20 place $n0: source $n1 of $o0\n\
           \x20 place $n0: free\n\
+          \x20 place $n0: tally $n1, calls refused with 14 under its member's number since it joined\n\
           \x20   members $u0, target $u1\n\
+          \x20   members $u2, target $u3, but the tally of place $n0: $n1\n\
           \x20 last report as written: $b2\n\
           \x20 settings written from the target: $b2\n\
           \x20 line $q0: group $n1\n\

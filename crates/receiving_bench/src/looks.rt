@@ -9,6 +9,7 @@ use crate::forms::LATENESS;
 use crate::forms::MEMBERS;
 use crate::forms::PLACE;
 use crate::forms::PLACE_FREE;
+use crate::forms::TALLY;
 use crate::forms::UNCHANGED;
 use crate::forms::WRITE_REPORT;
 use crate::lines::Line;
@@ -28,6 +29,9 @@ use register::Record;
 use register::Target;
 use table::Table;
 use times::ntp_age;
+
+// No place is excepted.
+const NO_PLACE: usize = 64;
 
 // A target's fields. Behind them stands how far its group and media source are from the table's.
 fn target_line(x: Target, scene: Scene, origin: Origin) -> Line {
@@ -69,17 +73,27 @@ fn choice_at(table: Table, reading: Reading) -> Choice {
 fn place_line(table: Table, place: u64, origin: Origin) -> Line {
     let shown = table.member_at(place as usize);
     let member = shown.member;
+    let x = member.record;
     if shown.held == 0 {
         return numbers_line(PLACE_FREE, place, 0, 0, origin);
     }
-    numbers_line(PLACE, place, member.source as u64, 0, member.origin)
+    numbers_line(PLACE, place, x.source as u64, 0, x.origin)
 }
 
-// All that a place holds. Where it is free, that is zeros.
-fn record_line(table: Table, place: usize) -> Line {
+// The tally of the member at a place, 0 where it is free.
+fn tally_at(table: Table, place: usize) -> u64 {
     let shown = table.member_at(place);
-    let x = shown.member;
+    let member = shown.member;
+    member.tally as u64
+}
+
+// All that a place holds, but for the tally at one place. Where it is free, that is zeros.
+fn member_line(table: Table, place: usize, but: usize) -> Line {
+    let shown = table.member_at(place);
+    let member = shown.member;
+    let x = member.record;
     let r = x.report;
+    let tally = if place == but { 0 } else { member.tally as u64 };
     let flags = (r.payload_type as u64) * 256 + (r.p as u64);
     let held = shown.held as usize;
     let source = x.source as u64;
@@ -89,30 +103,57 @@ fn record_line(table: Table, place: usize) -> Line {
     let presented = r.presented as u64;
     line_of(
         held,
-        [source, r.received, group, media, rtp, presented, flags, 0],
+        [
+            source,
+            r.received,
+            group,
+            media,
+            rtp,
+            presented,
+            flags,
+            tally,
+        ],
         x.origin,
     )
 }
 
-// Whether a place of two tables does not hold the same, as a number.
-fn other_members(a: Table, b: Table) -> u64 {
+// Whether a place of two tables does not hold the same, but for the tally at one place, as a number.
+fn other_members(a: Table, b: Table, but: usize) -> u64 {
     for place in 0..64 {
-        if !same_line(record_line(a, place), record_line(b, place)) {
+        if !same_line(member_line(a, place, but), member_line(b, place, but)) {
             return 1;
         }
     }
     0
 }
 
-pub(crate) fn unchanged(table: Table, earlier: Table, scene: Scene, origin: Origin) -> Line {
-    let now = choice_line(choice_at(table, scene.reading), scene, origin);
-    let then = choice_line(choice_at(earlier, scene.reading), scene, origin);
-    let other_target = !same_line(now, then) as u64;
-    numbers_line(
-        UNCHANGED,
-        other_members(table, earlier),
-        other_target,
-        0,
+// Whether the choice on two tables is not the same, as a number.
+fn other_target(a: Table, b: Table, scene: Scene, origin: Origin) -> u64 {
+    let now = choice_line(choice_at(a, scene.reading), scene, origin);
+    let then = choice_line(choice_at(b, scene.reading), scene, origin);
+    !same_line(now, then) as u64
+}
+
+// What came of a step that asks for members and target as before the last call, all of them or but for a tally.
+pub(crate) fn unchanged(table: Table, earlier: Table, line: Line, scene: Scene) -> Line {
+    let form = line.form;
+    let origin = line.origin;
+    let target = other_target(table, earlier, scene, origin);
+    if form == UNCHANGED {
+        return numbers_line(
+            form,
+            other_members(table, earlier, NO_PLACE),
+            target,
+            0,
+            origin,
+        );
+    }
+    let place = value(line, 0);
+    let but = place as usize;
+    let members = other_members(table, earlier, but);
+    line_of(
+        form,
+        [place, tally_at(table, but), members, target, 0, 0, 0, 0],
         origin,
     )
 }
@@ -159,6 +200,7 @@ pub(crate) fn look(table: Table, line: Line, scene: Scene, record: Record, s: &[
     match form {
         MEMBERS => numbers_line(form, table.count_members() as u64, 0, 0, origin),
         PLACE | PLACE_FREE => place_line(table, place, origin),
+        TALLY => numbers_line(form, place, tally_at(table, place as usize), 0, origin),
         _ => target_step(line, scene, record, choice_at(table, scene.reading), s),
     }
 }

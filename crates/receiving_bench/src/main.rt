@@ -28,7 +28,9 @@
 //   delay = TIME                                 of the target
 //   members = COUNT
 //   place INDEX = SOURCE ORIGIN | free
-//   unchanged                                    members and target are as before the last call
+//   tally INDEX = COUNT                          of the member at that place, 0 where it is free
+//   unchanged                                    members, their tallies and the target are as before the last call
+//   unchanged but tally INDEX = COUNT            the same, but for the tally at that place, which is COUNT
 //   write report = HEX..                         the last report, as the writer writes it
 //   write settings SENDER = HEX..                the target's settings, as the writer writes them
 //   line TEXT = GROUP | refused NUMBER           reads the line of a site file
@@ -68,6 +70,7 @@ use crate::forms::SWEEP;
 use crate::forms::TABLE;
 use crate::forms::TAKE;
 use crate::forms::UNCHANGED;
+use crate::forms::UNCHANGED_BUT;
 use crate::forms::WRITE_LINE_REFUSED;
 use crate::forms::matched;
 use crate::forms::print_came;
@@ -102,7 +105,7 @@ use register::Record;
 use table::Table;
 
 // How many answers were compared, and how many of them were as expected.
-struct Tally {
+struct Score {
     compared: u64,
     expected: u64,
 }
@@ -137,16 +140,15 @@ fn line_at(s: &[u8], at: usize) -> Line {
 // The table after a line, and the line with what came.
 fn told(table: Table, earlier: Table, line: Line, scene: Scene, record: Record, s: &[u8]) -> Told {
     let form = line.form;
-    let origin = line.origin;
     match form {
         TABLE => Told {
             table: usual_table(),
             line,
         },
         READING..=NO_REDUCED_SIZE | PROSE => Told { table, line },
-        UNCHANGED => Told {
+        UNCHANGED..=UNCHANGED_BUT => Told {
             table,
-            line: unchanged(table, earlier, scene, origin),
+            line: unchanged(table, earlier, line, scene),
         },
         OPEN..=SWEEP => call(table, line, scene),
         TAKE..=ITEM_REFUSED => read_datagram(table, line, scene, s),
@@ -203,26 +205,26 @@ fn printed(line: Line, came: Line, s: &[u8], at: usize, number: usize) -> u64 {
     compared(line, came, s)
 }
 
-fn tallied(tally: Tally, outcome: u64) -> Tally {
-    let compared = std::num::wrapping_add_u64(tally.compared, 1);
+fn scored(score: Score, outcome: u64) -> Score {
+    let compared = std::num::wrapping_add_u64(score.compared, 1);
     match outcome {
-        RIGHT => Tally {
+        RIGHT => Score {
             compared,
-            expected: std::num::wrapping_add_u64(tally.expected, 1),
+            expected: std::num::wrapping_add_u64(score.expected, 1),
         },
-        WRONG => Tally {
+        WRONG => Score {
             compared,
-            expected: tally.expected,
+            expected: score.expected,
         },
-        _ => tally,
+        _ => score,
     }
 }
 
-fn ended(tally: Tally) {
+fn ended(score: Score) {
     say(BENCH);
-    print_number(tally.expected);
+    print_number(score.expected);
     say(OF);
-    print_number(tally.compared);
+    print_number(score.compared);
     say(AS_EXPECTED);
     end_line();
 }
@@ -232,7 +234,7 @@ fn run(s: &[u8]) {
     let mut earlier = table;
     let mut scene = usual(NOWHERE);
     let mut record = first_record(0);
-    let mut tally = Tally {
+    let mut score = Score {
         compared: 0,
         expected: 0,
     };
@@ -243,14 +245,14 @@ fn run(s: &[u8]) {
         }
         let line = line_at(s, at);
         let told = told(table, earlier, line, scene, record, s);
-        tally = tallied(tally, printed(line, told.line, s, at, number));
+        score = scored(score, printed(line, told.line, s, at, number));
         earlier = kept(earlier, table, line.form);
         table = told.table;
         record = record_behind(record, scene, line);
         scene = scene_behind(scene, told.line);
         at = forward(line_end(s, at), 1);
     }
-    ended(tally);
+    ended(score);
 }
 
 fn main() {

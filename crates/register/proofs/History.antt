@@ -6,13 +6,6 @@ use lib.ListN.{length}
 use Rattle.register.specs.Register.{Opening, Rows, Call, answer, after, answers, afterAll}
 use Rattle.register.specs.Promise.{AllInRange}
 
-pub rows-append :
-    (o : Opening) (rows : Rows) (calls more : List Call) →
-    afterAll o rows (calls ++ more) ≡ afterAll o (afterAll o rows calls) more
-unfolding afterAll
-rows-append o rows [] more = refl
-rows-append o rows (call ∷ calls) more = rows-append o (after o rows call) calls more
-
 -- one answer for each call
 pub length-answers : (o : Opening) (rows : Rows) (calls : List Call) → length (answers o rows calls) ≡ length calls
 unfolding answers

@@ -3,6 +3,7 @@ pub mod Rows
 pub mod History
 pub mod Order
 pub mod Unique
+pub mod Tallies
 pub mod Permuted
 pub mod Stands
 pub mod Promised

@@ -7,13 +7,16 @@ use native.Mathlib.Omega.{arith}
 use Rattle.refusals.specs.Refusals.{otherStream, otherOrigin, receivedFar, rtpAged, badlyPresented}
 use Rattle.times.specs.Times.{isFar, isAged, isBadlyPresented}
 use Rattle.register.specs.declared.Record.{Record}
+use Rattle.register.specs.declared.Member.{Member}
 use Rattle.register.specs.declared.Reading.{Reading}
 use Rattle.register.specs.Register.{Opening, Rows, Call, presents, isOtherStream, reportChecks, answers, afterAll}
+use Rattle.register.specs.Tallies.{Members, rowsOf, tallyIn, membersAfterAll}
 use Rattle.register.specs.Promise.{InRange, AllInRange}
 use Rattle.register.specs.Letter.{got, History, history, madeIn, Stands, linesOf, NoneOf, MeansBehind, Means}
+use Rattle.register.proofs.Tallies.{rows-after-all, kept-none, kept-after-all}
 use Rattle.register.proofs.Letter.Lines.{untold}
 use Rattle.register.proofs.Letter.Tests.{own-stream, tells-badly-presented}
-use Rattle.register.proofs.Letter.Theorem.{made-of, letter}
+use Rattle.register.proofs.Letter.Theorem.{IsMember, made-of, letter}
 
 -- ---- answered 0, a report found room
 
@@ -77,10 +80,15 @@ accepted-sound o h x at means range =
     }
 
 pub sound-rows : (o : Opening) (calls : List Call) → AllInRange calls → Sound o (afterAll o [] calls)
+unfolding rowsOf
 sound-rows o calls ranges row member =
     let h : History = history calls (answers o [] calls) in
     let made : madeIn h ≡ calls = made-of o [] calls in
-    let s : Stands o h row = letter o calls .members h [] (sym (append-nil h)) row .0 (rw made member) in
+    let ms : Members = membersAfterAll o [] calls in
+    let m : Member = record { «record» = row; tally = tallyIn ms (row .source) } in
+    let there : List·Memᴰ row (rowsOf ms) = rw (rows-after-all o [] calls) member in
+    let is : IsMember o h m = rw made (kept-after-all o [] calls kept-none m .1 (there, refl)) in
+    let s : Stands o h row = letter o calls .members h [] (sym (append-nil h)) m .0 is .0 in
     let means : _ = letter o calls .refusals (s .before) (Call.report row (s .at)) 0 (s .behind) (s .reported) in
     accepted-sound o (s .before) row (s .at) means
     (range-in h (s .before) (Call.report row (s .at)) 0 (s .behind) (rw made ranges) (s .reported))

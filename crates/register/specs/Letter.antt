@@ -1,18 +1,23 @@
--- What demand 3 says of members and twins, and what each answer means, in the words of the letter and of the papers'
--- table of refusal numbers, over what the customer sees: the calls of a list, the answer that each got, and the
--- members shown. Nothing here is kept from call to call: who is a member follows from the list.
-use Prim.Native.Nat.{ℕ, _*_, _^_, _<_}
+-- What demand 3 says of members and twins, request E5 of their tallies, and what each answer means, in the words of the
+-- letter and of the papers' table of refusal numbers, over what the customer sees: the calls of a list, the answer that
+-- each got, and the members shown. Nothing here is kept from call to call: who is a member, and its tally, follow from
+-- the list.
+use Prim.Native.Nat.{ℕ, _+_, _*_, _^_, _<_}
+use mathlib.Core.Bool.{Bool, cond, _&&_}
 use mathlib.Core.List.{List, [], _∷_, _++_, List·Memᴰ}
 use mathlib.Core.Logic.{_⊎_, _↔_}
 use mathlib.Core.Path.{_≡_}
+use lib.Dec.{ltb, eqb}
 use lib.ListN.{length}
 use Rattle.refusals.specs.Refusals.{badOpening, otherStream, otherOrigin, receivedFar, rtpAged, badlyPresented}
 use Rattle.refusals.specs.Refusals.{noRoom, noMember}
 use Rattle.times.specs.Times.{ntpAge, rtpAge, delay, expanded}
 use Rattle.origin.specs.declared.Origin.{Origin}
 use Rattle.register.specs.declared.Record.{Record}
+use Rattle.register.specs.declared.Member.{Member}
 use Rattle.register.specs.declared.Reading.{Reading}
-use Rattle.register.specs.Register.{Opening, Rows, Call}
+use Rattle.register.specs.Register.{Opening, Rows, Call, filter}
+use Rattle.register.specs.Tallies.{isUnder}
 use Rattle.register.specs.Promise.{Unique}
 
 -- ---- a list of calls with their answers
@@ -111,6 +116,41 @@ NotHeld o h source = (x : Record) → Stands o h x → x .source ≡ source → 
 abbrev pub NoRoom : Opening → History → ℕ → Type 0
 NoRoom o h source = NotHeld o h source × ((rows : Rows) × AreAll o h rows × (length rows ≡ 64))
 
+-- ---- tallies (document 02, E5)
+
+-- a source number joins: a report under it is accepted, and by the calls before no member had it
+abbrev pub Joins : Opening → History → Event → ℕ → Type 0
+Joins o before (got (Call.report x at) number) source = (x .source ≡ source) × (number ≡ 0) × NotHeld o before source
+Joins o before (got (Call.farewell left origin) number) source = ⊥
+Joins o before (got (Call.sweep at) number) source = ⊥
+
+-- what a history has behind the last joining of a number
+pub record SinceJoined (o : Opening) (h : History) (source : ℕ) (behind : History) : Type 0 where
+  pub before : History
+  pub joining : Event
+  pub whole : h ≡ before ++ (joining ∷ behind)
+  pub joins : Joins o before joining source
+  pub last :
+      (between : History) (e : Event) (later : History) → behind ≡ between ++ (e ∷ later) →
+      Joins o (before ++ (joining ∷ between)) e source → ⊥
+
+-- a number was refused with 14, by report or farewell
+abbrev pub isTwinRefused : ℕ → Event → Bool
+isTwinRefused source (got call number) = eqb number otherOrigin && isUnder source call
+
+-- how many times that was, in a history
+abbrev pub timesRefused : ℕ → History → ℕ
+timesRefused source h = length (filter (isTwinRefused source) h)
+
+-- the tally stops at 4,294,967,295
+abbrev pub cut : ℕ → ℕ
+cut times = cond (ltb times 4294967295) times 4294967295
+
+-- a number's tally: how many times it was refused with 14 since it last joined
+abbrev pub TallyIs : Opening → History → (source tally : ℕ) → Type 0
+TallyIs o h source tally =
+    (behind : History) × SinceJoined o h source behind × (tally ≡ cut (timesRefused source behind))
+
 -- ---- the papers' table of refusal numbers
 
 -- a line of it: a number, and when it is given (12 to 19 below, by their names)
@@ -168,20 +208,32 @@ TwinGets o (Call.report y at) number =
 TwinGets o (Call.farewell source origin) number = number ≡ otherOrigin
 TwinGets o (Call.sweep at) number = ⊥
 
--- a twin's call is refused, and the member is shown as before
-abbrev pub TwinAltersNothing : Opening → (History → Record → Type 0) → History → Call → ℕ → Type 0
-TwinAltersNothing o Shown before call number =
-    (x : Record) → Shown before x → FromTwin x call →
-    TwinGets o call number × Shown (before ++ (got call number ∷ [])) x
+-- a member behind a twin's call: 14 is tallied, and number, origin and report are as before
+abbrev pub tallied : ℕ → Member → Member
+tallied number m =
+    record { «record» = m .«record»; tally = cond (eqb number otherOrigin) (cut (m .tally + 1)) (m .tally) }
+
+-- a twin's call is refused, and the member is shown as before, but for its tally after 14
+abbrev pub TwinAltersTallyAlone : Opening → (History → Member → Type 0) → History → Call → ℕ → Type 0
+TwinAltersTallyAlone o Shown before call number =
+    (m : Member) → Shown before m → FromTwin (m .«record») call →
+    TwinGets o call number × Shown (before ++ (got call number ∷ [])) (tallied number m)
 
 -- ---- the sentences
 
--- `Shown g x` says that x is among the members shown after the calls of g: number, origin and report
-pub record Letter (o : Opening) (h : History) (Shown : History → Record → Type 0) : Type 0 where
+-- `Shown g m` says that m is among the members shown after the calls of g: number, origin, report and tally
+pub record Letter (o : Opening) (h : History) (Shown : History → Member → Type 0) : Type 0 where
   -- "A member stands on the last report accepted under its source number, from the address that holds it", after any
-  -- beginning of the list, and whoever so stands is a member
-  pub members : (before behind : History) → h ≡ before ++ behind → (x : Record) → Shown before x ↔ Stands o before x
-  -- "a twin at another address or port never alters it"
-  pub twins : OfEachCall (TwinAltersNothing o Shown) h
+  -- beginning of the list; beside it stands "how many times its number was refused with 14, by report or farewell,
+  -- since it last joined" (E5)
+  pub members :
+      (before behind : History) → h ≡ before ++ behind → (m : Member) →
+      Shown before m ↔ (Stands o before (m .«record») × TallyIs o before (m .«record» .source) (m .tally))
+  -- and whoever so stands is a member, whose number then has a tally
+  pub all :
+      (before behind : History) → h ≡ before ++ behind → (x : Record) → Stands o before x →
+      (tally : ℕ) × Shown before (record { «record» = x; tally = tally })
+  -- "a twin at another address or port never alters it": not its number, origin or report
+  pub twins : OfEachCall (TwinAltersTallyAlone o Shown) h
   -- every answer means what the table of refusal numbers says
   pub refusals : OfEachCall (λ before call number. Means (linesOf o before call) number) h

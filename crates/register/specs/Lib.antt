@@ -1,4 +1,5 @@
 pub mod Register
+pub mod Tallies
 pub mod Choosing
 pub mod Promise
 pub mod Letter

@@ -34,7 +34,7 @@ isRefusedOpening o = eqb (o .group) 0 || eqb (o .group) 4294967295 || eqb (o .ra
 
 -- ---- rows
 
--- the rows for which a test is true, in order
+-- those for which a test is true, in order
 unfoldable pub filter : {A : Type 0} → (A → Bool) → List A → List A
 filter test [] = []
 filter test (x ∷ xs) = cond (test x) (x ∷ filter test xs) (filter test xs)
@@ -108,7 +108,7 @@ accepted o rows (Call.report x at) = renewed rows x
 accepted o rows (Call.farewell source origin) = filter (λ row. not (hasNumber source row)) rows
 accepted o rows (Call.sweep at) = filter (freshAt o at) rows
 
--- refused, a call changes nothing
+-- refused, a call changes no row
 unfoldable pub after : Opening → Rows → Call → Rows
 after o rows call = cond (eqb (answer o rows call) 0) (accepted o rows call) rows
 

@@ -1,4 +1,4 @@
-// What a member table and the plain register are told, and what choosing answers.
+// What a member table and the plain register are told, what a table holds of a member, and what choosing answers.
 use origin::Origin;
 
 // A report as it stands in a row: the fields of a report item but its sender, who is the record's source. `p` is a
@@ -14,12 +14,23 @@ pub struct ReportFields {
     pub p: u8,
 }
 
-// A report with its source number and its origin: what the table is told, and what it holds.
+// A report with its source number and its origin: what the table is told.
 #[repr(C)]
 pub struct Record {
     pub source: u32,
     pub origin: Origin,
     pub report: ReportFields,
+}
+
+// Where a tally stops.
+pub const TALLY_LIMIT: u32 = 4294967295;
+
+// A member: its number, its origin and its last accepted report, and its tally: how many times its number was refused
+// with 14, by report or farewell, since it last joined, up to TALLY_LIMIT.
+#[repr(C)]
+pub struct Member {
+    pub record: Record,
+    pub tally: u32,
 }
 
 // A sender's reading of both clocks: NTP time N and RTP time R.

@@ -1,3 +1,4 @@
 pub mod Agreement
 pub mod PlaceTaken
+pub mod Refused
 pub mod Laws

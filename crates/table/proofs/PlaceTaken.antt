@@ -8,35 +8,38 @@ use lib.Dec.{eqb}
 use lib.ListN.{length, getD}
 use lib.Seq.{getD-set-same, getD-set-other}
 use native.Mathlib.Omega.{arith}
-use borrow.Author.Tests.{eqb-true, eq-eqb, ne-eqb, ltb-false, lt-ltb, not-true}
+use borrow.Author.Tests.{eqb-true, eq-eqb, ltb-false, lt-ltb, not-true}
 use Rattle.places.specs.Places.{isHeld, lowestFree, withPlace}
 use Rattle.places.proofs.Laws.Bits.{with-here, with-other}
 use Rattle.places.proofs.Laws.Free.{lowest-free-place, lowest-free-below}
 use Rattle.refusals.specs.Refusals.{otherStream, otherOrigin, receivedFar, rtpAged, badlyPresented, noRoom}
 use Rattle.register.specs.declared.Record.{Record}
+use Rattle.register.specs.declared.Member.{Member}
 use Rattle.register.specs.declared.Reading.{Reading}
 use Rattle.times.specs.Times.{isFar, isAged, isBadlyPresented}
 use Rattle.register.specs.Register.{Opening, Rows, Call, presents, hasNumber, isOtherStream, reportChecks}
+use Rattle.register.specs.Tallies.{rowsOf}
+use Rattle.register.proofs.Tallies.{length-rows}
 use Rattle.register.proofs.Rows.{clash}
 use Rattle.register.proofs.Letter.Lines.{tells-any}
 use Rattle.register.proofs.Unique.{unique-permuted}
-use Rattle.choosing.specs.Marked.{nowhere, rowsAt}
+use Rattle.choosing.specs.Marked.{nowhere, nobody, markedAt}
 use Rattle.table.specs.declared.Table.{Table}
 use Rattle.table.specs.declared.Place.{Place}
-use Rattle.table.specs.Members.{openingOf, placeAt, placeIn}
+use Rattle.table.specs.Members.{openingOf, placeAt, recordsIn, placeIn}
 use Rattle.table.specs.Calls.{isMember, isElsewhere, isWithoutRoom, numberOf, answered}
 use Rattle.table.specs.Calls.{withHeld, withMember, filed}
 use Rattle.table.specs.PlaceTaken.{ShowsMember, AllShown, LowestShownFree, IsNew, OnlyAt, EveryReport}
 use Rattle.table.proofs.Laws.Cases.{report-room, free-place}
 use Rattle.table.proofs.Laws.Members.{place-found, member-at-place, place-once}
-use Rattle.table.proofs.Agreement.Calls.{Holds, Owned, owned}
-use Rattle.table.proofs.Agreement.Theorem.{shown-there, reached-holds}
+use Rattle.table.proofs.Agreement.Calls.{Holds, Owned, owned, anew}
+use Rattle.table.proofs.Agreement.Theorem.{shown-there, shown-record, reached-holds}
 
 -- ---- what a place shows
 
-shows-held :
+pub shows-held :
     (t : Table) (place : ℕ) → place < 64 → isHeld place (t .held) ≡ true →
-    placeAt t place ≡ record { held = 1; member = getD (t .members) place nowhere }
+    placeAt t place ≡ record { held = 1; member = getD (t .members) place nobody }
 unfolding placeAt
 shows-held t place h held = rw (lt-ltb place 64 h, held) refl
 
@@ -44,36 +47,36 @@ shows-none : (t : Table) (place : ℕ) → place < 64 → isHeld place (t .held)
 unfolding placeAt
 shows-none t place h free = rw (lt-ltb place 64 h, free) refl
 
--- ---- a record that is put at a place
+-- ---- a member that is put at a place
 
 -- at a free place, which is marked
 only-anew :
-    (t : Table) (r : ℕ) (x : Record) → r < 64 → r < length (t .members) → isHeld r (t .held) ≡ false →
-    OnlyAt r x t (withMember (withHeld t (withPlace (t .held) r)) r x)
+    (t : Table) (r : ℕ) (m : Member) → r < 64 → r < length (t .members) → isHeld r (t .held) ≡ false →
+    OnlyAt r m t (withMember (withHeld t (withPlace (t .held) r)) r m)
 unfolding placeAt
-only-anew t r x below within free = (here, there)
+only-anew t r m below within free = (here, there)
   where
     then : Table
-    then = withMember (withHeld t (withPlace (t .held) r)) r x
+    then = withMember (withHeld t (withPlace (t .held) r)) r m
 
-    here : placeAt then r ≡ record { held = 1; member = x }
+    here : placeAt then r ≡ record { held = 1; member = m }
     here =
         shows-held then r below (with-here (t .held) r below free)
-        ∙ ap (λ (m : Record). record { held = 1; member = m }) (getD-set-same (t .members) r x nowhere within)
+        ∙ ap (λ (y : Member). record { held = 1; member = y }) (getD-set-same (t .members) r m nobody within)
 
     there : (place : ℕ) → (place ≡ r → ⊥) → placeAt then place ≡ placeAt t place
     there place apart =
-        rw (with-other (t .held) r place below free apart, getD-set-other (t .members) r place x nowhere apart) refl
+        rw (with-other (t .held) r place below free apart, getD-set-other (t .members) r place m nobody apart) refl
 
 -- at a held one
-only-again :
-    (t : Table) (r : ℕ) (x : Record) → r < 64 → r < length (t .members) → isHeld r (t .held) ≡ true →
-    OnlyAt r x t (withMember t r x)
+pub only-again :
+    (t : Table) (r : ℕ) (m : Member) → r < 64 → r < length (t .members) → isHeld r (t .held) ≡ true →
+    OnlyAt r m t (withMember t r m)
 unfolding placeAt
-only-again t r x below within held = (
-  shows-held (withMember t r x) r below held
-      ∙ ap (λ (m : Record). record { held = 1; member = m }) (getD-set-same (t .members) r x nowhere within),
-  λ place apart. rw (getD-set-other (t .members) r place x nowhere apart) refl,
+only-again t r m below within held = (
+  shows-held (withMember t r m) r below held
+      ∙ ap (λ (y : Member). record { held = 1; member = y }) (getD-set-same (t .members) r m nobody within),
+  λ place apart. rw (getD-set-other (t .members) r place m nobody apart) refl,
 )
 
 -- ---- whose number it is
@@ -85,45 +88,49 @@ new-no-member t source long new = go (isMember t source) refl
     go : (b : Bool) → isMember t source ≡ b → isMember t source ≡ false
     go true e =
         let w : Owned t source = owned t source long e in
-        let shown : _ = shows-held t (placeIn t source) (w .below) (w .held) in
-        absurd (new (placeIn t source) (ap (λ (s : Place). s .held) shown)
-        (ap (λ (s : Place). s .member .source) shown ∙ w .number))
+        let shows : ShowsMember t (placeIn t source) =
+        ap (λ (s : Place). s .held) (shows-held t (placeIn t source) (w .below) (w .held)) in
+        absurd
+        (new (placeIn t source) shows
+        (ap (λ (x : Record). x .source) (shown-record t (placeIn t source) shows) ∙ w .number))
     go false e = e
 
 -- a held place is that of the member with its number
 number-place :
     (o : Opening) (t : Table) (rows : Rows) → Holds o t rows → (r : ℕ) → r < 64 → isHeld r (t .held) ≡ true →
-    (isMember t (getD (t .members) r nowhere .source) ≡ true) × (placeIn t (getD (t .members) r nowhere .source) ≡ r)
+    (isMember t (getD (recordsIn t) r nowhere .source) ≡ true) × (placeIn t (getD (recordsIn t) r nowhere .source) ≡ r)
 number-place o t rows h r below held = go (isMember t source) refl
   where
     source : ℕ
-    source = getD (t .members) r nowhere .source
+    source = getD (recordsIn t) r nowhere .source
 
-    within : r < length (t .members)
-    within = omega (arith, below, h .long)
+    within : r < length (recordsIn t)
+    within = omega (arith, below, h .long, length-rows (t .members))
 
     go : (b : Bool) → isMember t source ≡ b → (isMember t source ≡ true) × (placeIn t source ≡ r)
     go true e =
         let w : Owned t source = owned t source (h .long) e in
         let unique : _ = unique-permuted (Permᴰ·symm (h .same)) (h .unique) in (
           e,
-          place-once (t .held) (t .members) unique (placeIn t source) r (w .held) held (w .within) within (w .number),
+          place-once (t .held) (recordsIn t) unique (placeIn t source) r (w .held) held (w .within) within (w .number),
         )
     go false e =
         let behind : 64 ≤ placeIn t source = ltb-false (placeIn t source) 64 e in
-        let none : _ = place-found source (t .held) (t .members) .2 (omega (arith, behind, h .long)) in
-        let member : _ = member-at-place (t .held) r (t .members) held within in
+        let none : _ =
+        place-found source (t .held) (recordsIn t) .2 (omega (arith, behind, h .long, length-rows (t .members))) in
+        let member : _ = member-at-place (t .held) r (recordsIn t) nowhere held within in
         clash
         (sym none
-        ∙ tells-any (hasNumber source) (rowsAt (t .held) (t .members)) .1 (_, member, eq-eqb source source refl))
+        ∙ tells-any (hasNumber source) (markedAt (t .held) (recordsIn t)) .1 (_, member, eq-eqb source source refl))
 
 -- a place that shows a number is that of the member with it
 shown-place :
     (o : Opening) (t : Table) (rows : Rows) → Holds o t rows → (r source : ℕ) → ShowsMember t r →
-    placeAt t r .member .source ≡ source → (isMember t source ≡ true) × (placeIn t source ≡ r)
+    placeAt t r .member .«record» .source ≡ source → (isMember t source ≡ true) × (placeIn t source ≡ r)
 shown-place o t rows h r source shows number =
     let there : _ = shown-there t r shows in
-    rw (sym (ap (λ (m : Record). m .source) (there .2)) ∙ number) at (number-place o t rows h r (there .0) (there .1))
+    rw (sym (ap (λ (x : Record). x .source) (shown-record t r shows)) ∙ number) at
+    (number-place o t rows h r (there .0) (there .1))
 
 -- ---- 18 is the answer of the last check alone
 
@@ -150,7 +157,7 @@ refused-full o x at elsewhere full e =
     (isFar (at .ntp) (x .report .received)) (isAged (o .rate) (at .rtp) (x .report .rtp))
     (presents x && isBadlyPresented (x .report .received) (x .report .presented)) full e
 
--- ---- the four sentences
+-- ---- the three sentences
 
 accepted-report :
     (t : Table) (x : Record) (at : Reading) → answered t (Call.report x at) .number ≡ 0 →
@@ -158,15 +165,9 @@ accepted-report :
 unfolding answered
 accepted-report t x at e = rw e refl
 
-refused-report :
-    (t : Table) (x : Record) (at : Reading) → (answered t (Call.report x at) .number ≡ 0 → ⊥) →
-    answered t (Call.report x at) .table ≡ t
-unfolding answered
-refused-report t x at n = rw (ne-eqb (numberOf t (Call.report x at)) 0 n) refl
-
 taken-anew :
     (o : Opening) (t : Table) (rows : Rows) → Holds o t rows → (x : Record) → isWithoutRoom t (x .source) ≡ false →
-    IsNew t (x .source) → (r : ℕ) × LowestShownFree t r × OnlyAt r x t (filed t x)
+    IsNew t (x .source) → (r : ℕ) × LowestShownFree t r × OnlyAt r (anew x) t (filed t x)
 unfolding filed
 taken-anew o t rows h x room new =
     let none : isMember t (x .source) ≡ false = new-no-member t (x .source) (h .long) new in
@@ -178,17 +179,18 @@ taken-anew o t rows h x room new =
         shows-none t (lowestFree 64 (t .held)) below (free .0),
         λ place p. ap (λ (s : Place). s .held) (shows-held t place (omega (arith, p, below)) (free .1 place p)),
       ),
-      rw none (only-anew t (lowestFree 64 (t .held)) x below (omega (arith, below, h .long)) (free .0)),
+      rw none (only-anew t (lowestFree 64 (t .held)) (anew x) below (omega (arith, below, h .long)) (free .0)),
     )
 
 taken-again :
     (o : Opening) (t : Table) (rows : Rows) → Holds o t rows → (x : Record) (r : ℕ) → ShowsMember t r →
-    placeAt t r .member .source ≡ x .source → OnlyAt r x t (filed t x)
+    placeAt t r .member .«record» .source ≡ x .source →
+    OnlyAt r (record { «record» = x; tally = placeAt t r .member .tally }) t (filed t x)
 unfolding filed
 taken-again o t rows h x r shows number =
     let mine : _ = shown-place o t rows h r (x .source) shows number in
     let there : _ = shown-there t r shows in
-    rw (mine .0, mine .1) (only-again t r x (there .0) (omega (arith, there .0, h .long)) (there .1))
+    rw (mine .0, mine .1, there .2) (only-again t r _ (there .0) (omega (arith, there .0, h .long)) (there .1))
 
 taken-full :
     (o : Opening) (t : Table) (rows : Rows) → Holds o t rows → (source : ℕ) → isWithoutRoom t source ≡ true →
@@ -203,8 +205,9 @@ taken-full o t rows h source full =
 
 pub place-taken : EveryReport
 unfolding answered numberOf
-place-taken o calls t rows reached x at =
-    let h : Holds o t rows = reached-holds o calls t rows reached in
+place-taken o calls t ms reached x at =
+    let rows : Rows = rowsOf ms in
+    let h : Holds o t (rowsOf ms) = reached-holds o calls t ms reached in
     record {
       new =
           λ e new.
@@ -212,7 +215,6 @@ place-taken o calls t rows reached x at =
       own =
           λ e r shows number.
           rw (accepted-report t x at e) (taken-again o t rows h x r shows number);
-      refused = λ n place. ap (λ (then : Table). placeAt then place) (refused-report t x at n);
       full =
           λ e.
           taken-full o t rows h (x .source)

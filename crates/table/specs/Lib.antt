@@ -4,3 +4,4 @@ pub mod Choose
 pub mod Intake
 pub mod History
 pub mod PlaceTaken
+pub mod Refused

@@ -4,9 +4,10 @@ use mathlib.Core.Bool.{not, cond, _&&_}
 use mathlib.Core.List.{[], _∷_}
 use lib.ListN.{getD, replicate}
 use Rattle.places.specs.Places.{isFree, heldIn, holdsPlace}
-use Rattle.register.specs.declared.Record.{Record}
+use Rattle.register.specs.declared.Member.{Member}
 use Rattle.register.specs.Register.{Opening, Rows, hasNumber}
-use Rattle.choosing.specs.Marked.{zeros, nowhere, rowsAt}
+use Rattle.register.specs.Tallies.{Members, rowsOf}
+use Rattle.choosing.specs.Marked.{zeros, nobody, markedAt}
 use Rattle.table.specs.declared.Table.{Table}
 use Rattle.table.specs.declared.Place.{Place}
 
@@ -15,8 +16,8 @@ abbrev pub openingOf : Table → Opening
 openingOf t = record { group = t .group; media = t .media; rate = t .rate }
 
 -- what a place holds that was never taken
-abbrev pub vacant : Record
-vacant = zeros (replicate 16 0)
+abbrev pub vacant : Member
+vacant = record { «record» = zeros (replicate 16 0); tally = 0 }
 
 -- a table for an opening, without members
 unfoldable pub emptyTable : Opening → Table
@@ -26,8 +27,8 @@ emptyTable o =
 -- ---- who is a member
 
 -- the members at the places held, in the order of places
-abbrev pub membersOf : Table → Rows
-membersOf t = rowsAt (t .held) (t .members)
+abbrev pub membersOf : Table → Members
+membersOf t = markedAt (t .held) (t .members)
 
 -- how many members there are: the word's ones
 unfoldable pub memberCount : Table → ℕ
@@ -36,10 +37,14 @@ memberCount t = heldIn 64 (t .held)
 -- the member at a place, or none
 unfoldable pub placeAt : Table → ℕ → Place
 placeAt t place =
-    cond (holdsPlace (t .held) place) (record { held = 1; member = getD (t .members) place nowhere })
+    cond (holdsPlace (t .held) place) (record { held = 1; member = getD (t .members) place nobody })
     (record { held = 0; member = vacant })
 
 -- ---- places
+
+-- the records at all 64 places, held or not
+abbrev pub recordsIn : Table → Rows
+recordsIn t = rowsOf (t .members)
 
 -- the place of the member with a number, or behind the last where none has it: 64 in a table
 unfoldable pub placeOf : ℕ → ℕ → Rows → ℕ
@@ -48,4 +53,4 @@ placeOf source word (m ∷ ms) =
     cond (not (isFree word) && hasNumber source m) 0 (1 + placeOf source (word / 2) ms)
 
 abbrev pub placeIn : Table → ℕ → ℕ
-placeIn t source = placeOf source (t .held) (t .members)
+placeIn t source = placeOf source (t .held) (recordsIn t)

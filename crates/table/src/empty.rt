@@ -1,7 +1,8 @@
-// What stands for nothing: a record of zeros, a place without a member, a table without members.
+// What stands for nothing: a record and a member of zeros, a place without a member, a table without members.
 use crate::Place;
 use crate::Table;
 use origin::Origin;
+use register::Member;
 use register::Record;
 use register::ReportFields;
 ghost use mathlib.Core.Path.{_≡_};
@@ -9,7 +10,7 @@ ghost use Rattle.table.specs.Members.{vacant, emptyTable};
 
 // A record of zeros.
 fn vacant_record() -> Record
-    ensures { λ r. ⌜ r ≡ vacant ⌝ }
+    ensures { λ r. ⌜ r ≡ vacant .«record» ⌝ }
 {
     Record {
         source: 0,
@@ -29,13 +30,23 @@ fn vacant_record() -> Record
     }
 }
 
+// The same as a member.
+fn vacant_member() -> Member
+    ensures { λ r. ⌜ r ≡ vacant ⌝ }
+{
+    Member {
+        record: vacant_record(),
+        tally: 0,
+    }
+}
+
 // No member.
 pub(crate) fn free_place() -> Place
     ensures { λ r. ⌜ r ≡ record { held = 0; member = vacant } ⌝ }
 {
     Place {
         held: 0,
-        member: vacant_record(),
+        member: vacant_member(),
     }
 }
 
@@ -43,7 +54,7 @@ pub(crate) fn free_place() -> Place
 pub(crate) fn empty_table(group: u32, media: u32, rate: u32) -> Table
     ensures { λ r. ⌜ r ≡ emptyTable (record { group = group; media = media; rate = rate }) ⌝ }
 {
-    let vacant = vacant_record();
+    let vacant = vacant_member();
     Table {
         group,
         media,

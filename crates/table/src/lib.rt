@@ -1,6 +1,7 @@
 // The member table of one synchronization group: 64 places, and one word that marks those held.
 mod empty;
 mod search;
+mod tally;
 
 use checks::is_refused_opening;
 use checks::report_number;
@@ -20,6 +21,7 @@ use refusals::BAD_OPENING;
 use refusals::NO_MEMBER;
 use refusals::OTHER_ORIGIN;
 use register::Choice;
+use register::Member;
 use register::Reading;
 use register::Record;
 use register::ReportFields;
@@ -27,12 +29,14 @@ use search::is_elsewhere;
 use search::is_without_room;
 use search::member_of;
 use search::place_of;
+use tally::raised;
+ghost use Prim.Native.Nat.{_<_};
 ghost use mathlib.Core.Path.{_≡_};
 ghost use mathlib.Core.Bool.{false};
 ghost use Rattle.places.specs.Places.{lowestFree};
 ghost use Rattle.register.specs.Register.{Call};
 ghost use Rattle.table.specs.Members.{placeIn, memberCount, placeAt};
-ghost use Rattle.table.specs.Calls.{opened, isWithoutRoom, filed, answered};
+ghost use Rattle.table.specs.Calls.{opened, isWithoutRoom, filed, withRaised, answered};
 ghost use Rattle.table.specs.Choose.{chosenOf};
 ghost use Rattle.table.specs.Intake.{recordOf, taken};
 
@@ -43,7 +47,7 @@ pub struct Table {
     media: u32,
     rate: u32,
     held: u64,
-    members: [Record; 64],
+    members: [Member; 64],
 }
 
 // A refusal's number, or 0 that there is none, and the table afterwards.
@@ -59,11 +63,11 @@ pub struct Chosen {
     pub table: Table,
 }
 
-// The member at a place: `held` is 1 and `member` the member, or `held` is 0 and `member` a record of zeros.
+// The member at a place: `held` is 1 and `member` the member, or `held` is 0 and `member` all zeros.
 #[repr(C)]
 pub struct Place {
     pub held: u32,
-    pub member: Record,
+    pub member: Member,
 }
 
 // What became of an item.
@@ -127,7 +131,7 @@ impl Table {
         }
     }
 
-    // An accepted report, filed at its number's place, or at the lowest free one.
+    // An accepted report, filed at its number's place, with the tally there, or at the lowest free one, with 0.
     fn file(self, place: usize, free: usize, x: Record) -> Table
         requires { ⌜ (place ≡ placeIn self (x .source)) × (free ≡ lowestFree 64 (self .held))
             × (isWithoutRoom self (x .source) ≡ false) ⌝ }
@@ -136,11 +140,29 @@ impl Table {
         let held = self.held;
         let mut next = self;
         if place < 64 {
-            next.members[place] = x;
+            let there = next.members[place];
+            next.members[place] = Member {
+                record: x,
+                tally: there.tally,
+            };
             return next;
         }
         next.held = with_place(held, free);
-        next.members[free] = x;
+        next.members[free] = Member {
+            record: x,
+            tally: 0,
+        };
+        next
+    }
+
+    // A refusal with 14, tallied at the place of the member that holds the number.
+    fn tally_refusal(self, place: usize) -> Table
+        requires { ⌜ place < 64 ⌝ }
+        ensures { λ r. ⌜ r ≡ withRaised self place ⌝ }
+    {
+        let mut next = self;
+        let there = next.members[place];
+        next.members[place].tally = raised(there.tally);
         next
     }
 
@@ -156,6 +178,12 @@ impl Table {
         let free = lowest_free(held) as usize;
         let full = is_without_room(place, free);
         let number = report_number(self.group, self.media, self.rate, x, at, elsewhere, full);
+        if number == OTHER_ORIGIN {
+            return Answered {
+                number,
+                table: self.tally_refusal(place),
+            };
+        }
         if number != 0 {
             return Answered {
                 number,
@@ -182,9 +210,10 @@ impl Table {
             };
         }
         if is_elsewhere(members, place, origin) {
+            let tallied = self.tally_refusal(place);
             return Answered {
                 number: OTHER_ORIGIN,
-                table: self,
+                table: tallied,
             };
         }
         let mut next = self;

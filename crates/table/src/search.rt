@@ -1,14 +1,15 @@
 // Where a number's member stands, what is at a place, and whether there is room.
 use origin::Origin;
 use origin::same_origin;
-use register::Record;
+use register::Member;
 ghost use mathlib.Core.Path.{_≡_};
 ghost use mathlib.Core.Bool.{not, _&&_};
 ghost use Prim.Native.Nat.{_<_};
 ghost use lib.Dec.{ltb, eqb};
 ghost use lib.ListN.{getD};
 ghost use Rattle.places.specs.Places.{isFree};
-ghost use Rattle.choosing.specs.Marked.{nowhere};
+ghost use Rattle.register.specs.Tallies.{rowsOf};
+ghost use Rattle.choosing.specs.Marked.{nobody};
 ghost use Rattle.table.specs.Members.{placeOf};
 ghost use Rattle.table.specs.Calls.{elsewhereAt};
 
@@ -23,13 +24,13 @@ fn is_held_by(word: u64, number: u32, source: u32) -> bool
 }
 
 // The place of the member with a number, which is held, or 64 where none has it.
-pub(crate) fn place_of(held: u64, members: [Record; 64], source: u32) -> usize
-    ensures { λ r. ⌜ r ≡ placeOf source held members ⌝ }
+pub(crate) fn place_of(held: u64, members: [Member; 64], source: u32) -> usize
+    ensures { λ r. ⌜ r ≡ placeOf source held (rowsOf members) ⌝ }
 {
     let mut word = held;
     let mut i: usize = 0;
     while i < 64 {
-        if is_held_by(word, members[i].source, source) {
+        if is_held_by(word, members[i].record.source, source) {
             return i;
         }
         word /= 2;
@@ -38,23 +39,23 @@ pub(crate) fn place_of(held: u64, members: [Record; 64], source: u32) -> usize
     64
 }
 
-// The record at a place.
-pub(crate) fn member_of(members: [Record; 64], place: usize) -> Record
+// What stands at a place.
+pub(crate) fn member_of(members: [Member; 64], place: usize) -> Member
     requires { ⌜ place < 64 ⌝ }
-    ensures { λ r. ⌜ r ≡ getD members place nowhere ⌝ }
+    ensures { λ r. ⌜ r ≡ getD members place nobody ⌝ }
 {
     members[place]
 }
 
 // Whether a member stands at a place, with another origin.
-pub(crate) fn is_elsewhere(members: [Record; 64], place: usize, origin: Origin) -> bool
-    ensures { λ r. ⌜ r ≡ elsewhereAt members place origin ⌝ }
+pub(crate) fn is_elsewhere(members: [Member; 64], place: usize, origin: Origin) -> bool
+    ensures { λ r. ⌜ r ≡ elsewhereAt (rowsOf members) place origin ⌝ }
 {
     if 64 <= place {
         return false;
     }
     let there = members[place];
-    !same_origin(there.origin, origin)
+    !same_origin(there.record.origin, origin)
 }
 
 // Whether a source without a place finds none free: the lowest free place is 64.

@@ -19,11 +19,11 @@ use Rattle.register.specs.Choosing.{lateness, latenessOf, delayOf, precedes, ta
 use Rattle.choosing.specs.Latest.{latest}
 use Rattle.register.proofs.Order.{ltZ-not-leZ, leZ-subℕ, lateness-subℕ}
 use Rattle.register.proofs.Rows.{filter-yes, filter-no}
-use Rattle.choosing.specs.Marked.{rowsAt, filterWord}
+use Rattle.choosing.specs.Marked.{markedAt, filterWord}
 use Rattle.choosing.specs.Choose.{atRate, freshWord, presentingWord, arrives, countedWord, latestTarget, choiceIn}
 use Rattle.choosing.specs.Choose.{choiceAmong}
 use Rattle.choosing.specs.Lateness.{biased, biasedLate}
-use Rattle.choosing.proofs.Laws.Marked.{rows-filterWord}
+use Rattle.choosing.proofs.Laws.Marked.{marked-filterWord}
 use Rattle.choosing.proofs.Laws.Latest.{latest-cons}
 
 -- ---- the order of two numbers
@@ -142,10 +142,10 @@ latestTarget-alike test f g alike n (row ∷ rows) =
 latestTarget-biased :
     (rate : ℕ) (at : Reading) (test : Record → Bool) (n word : ℕ) (ms : Rows) →
     ((row : Record) → test row ≡ true → freshAt (atRate rate) at row ≡ true) →
-    latestTarget (biasedLate rate at) n (rowsAt (filterWord test word ms) ms)
-    ≡ latestTarget (latenessOf (atRate rate) at) n (rowsAt (filterWord test word ms) ms)
+    latestTarget (biasedLate rate at) n (markedAt (filterWord test word ms) ms)
+    ≡ latestTarget (latenessOf (atRate rate) at) n (markedAt (filterWord test word ms) ms)
 latestTarget-biased rate at test n word ms fresh =
-    rw (rows-filterWord test word ms)
+    rw (marked-filterWord test word ms)
     (sym
     (latestTarget-alike test (latenessOf (atRate rate) at) (biasedLate rate at)
     (λ a b p q.
@@ -153,12 +153,12 @@ latestTarget-biased rate at test n word ms fresh =
     (leZ-biased rate at a b (fresh a p) (fresh b q))
     (leZ-biased rate at b a (fresh b q) (fresh a p)))
     n
-    (rowsAt word ms)))
+    (markedAt word ms)))
 
 -- a choice of the code: the members counted are fresh in either mode
 pub choice-counted :
     (rate : ℕ) (at : Reading) (held : ℕ) (ms : Rows) (word : ℕ) → word ≡ countedWord rate at held ms →
-    (x : Choice) → x ≡ latestTarget (biasedLate rate at) (heldIn 64 word) (rowsAt word ms) →
+    (x : Choice) → x ≡ latestTarget (biasedLate rate at) (heldIn 64 word) (markedAt word ms) →
     x ≡ choiceAmong rate at held ms
 unfolding choiceAmong
 choice-counted rate at held ms word w x e = e ∙ rw w (go (arrives rate at held ms) refl)
@@ -166,7 +166,7 @@ choice-counted rate at held ms word w x e = e ∙ rw w (go (arrives rate at held
     go :
         (b : Bool) → arrives rate at held ms ≡ b →
         latestTarget (biasedLate rate at) (heldIn 64 (countedWord rate at held ms))
-        (rowsAt (countedWord rate at held ms) ms)
+        (markedAt (countedWord rate at held ms) ms)
         ≡ choiceIn rate at (countedWord rate at held ms) ms
     go true p =
         rw p

@@ -20,12 +20,12 @@ use Rattle.choosing.specs.Latest.{latest}
 use Rattle.choosing.specs.declared.Late.{Late}
 use Rattle.choosing.specs.declared.Candidate.{Candidate}
 use Rattle.places.specs.Places.{isFree}
-use Rattle.choosing.specs.Marked.{rowsAt, nowhere}
+use Rattle.choosing.specs.Marked.{markedAt, nowhere}
 use Rattle.choosing.specs.Choose.{latestTarget}
 use Rattle.choosing.specs.Lateness.{biased, biasedOf, biasedLate, inTwo, lateValue}
 use Rattle.choosing.specs.Lateness.{candidateAt, staysLatest, latestNext, latestTargetFrom, IsLatest}
 use Rattle.choosing.proofs.Laws.Latest.{latest-cons}
-use Rattle.choosing.proofs.Laws.Marked.{rows-free-at, rows-held-at}
+use Rattle.choosing.proofs.Laws.Marked.{marked-free-at, marked-held-at}
 
 -- ---- two words
 
@@ -177,8 +177,8 @@ pub record LatestSoFar (rate : ℕ) (at : Reading) (word : ℕ) (ms : Rows) (a :
     pub stands : StandsFor rate at ms a
     pub whole :
         (n : ℕ) →
-        latestTargetFrom (biasedLate rate at) n ms (a .place) (rowsAt rest (drop i ms))
-        ≡ latestTarget (biasedLate rate at) n (rowsAt word ms)
+        latestTargetFrom (biasedLate rate at) n ms (a .place) (markedAt rest (drop i ms))
+        ≡ latestTarget (biasedLate rate at) n (markedAt word ms)
 
 pub latest-start :
     {rate : ℕ} {at : Reading} {word : ℕ} {ms : Rows} →
@@ -204,7 +204,7 @@ latest-step {rate} {at} {word} {ms} {a} {rest} {i} {next} below within so e =
           stands = so .stands;
           whole =
               λ n.
-              sym (ap (latestTargetFrom (biasedLate rate at) n ms (a .place)) (rows-free-at rest ms i within p))
+              sym (ap (latestTargetFrom (biasedLate rate at) n ms (a .place)) (marked-free-at rest ms i within p))
               ∙ so .whole n;
         })
     go false p true q =
@@ -216,7 +216,7 @@ latest-step {rate} {at} {word} {ms} {a} {rest} {i} {next} below within so e =
           whole =
               λ n.
               sym
-              (ap (latestTargetFrom (biasedLate rate at) n ms (a .place)) (rows-held-at rest ms i within p)
+              (ap (latestTargetFrom (biasedLate rate at) n ms (a .place)) (marked-held-at rest ms i within p)
               ∙ latestTargetFrom-stays (biasedLate rate at) n ms (a .place) _ _ kept)
               ∙ so .whole n;
         })
@@ -229,7 +229,7 @@ latest-step {rate} {at} {word} {ms} {a} {rest} {i} {next} below within so e =
           whole =
               λ n.
               sym
-              (ap (latestTargetFrom (biasedLate rate at) n ms (a .place)) (rows-held-at rest ms i within p)
+              (ap (latestTargetFrom (biasedLate rate at) n ms (a .place)) (marked-held-at rest ms i within p)
               ∙ latestTargetFrom-changes (biasedLate rate at) n ms (a .place) i _ below lost)
               ∙ so .whole n;
         })
@@ -237,10 +237,10 @@ latest-step {rate} {at} {word} {ms} {a} {rest} {i} {next} below within so e =
 pub latest-end :
     {rate : ℕ} {at : Reading} {word : ℕ} {ms : Rows} {a : Candidate} {rest i : ℕ} → length ms ≤ i →
     LatestSoFar rate at word ms a rest i → IsLatest rate at word ms (a .place)
-unfolding rowsAt
+unfolding markedAt
 latest-end {rate} {at} {word} {ms} {a} {rest} {i} h so n =
     sym
-    (ap (λ (l : Rows). latestTargetFrom (biasedLate rate at) n ms (a .place) (rowsAt rest l))
+    (ap (λ (l : Rows). latestTargetFrom (biasedLate rate at) n ms (a .place) (markedAt rest l))
     (drop-of-length-le ms h))
     ∙ so .whole n
 

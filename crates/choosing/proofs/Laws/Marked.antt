@@ -1,8 +1,8 @@
 -- Laws of the members that a word marks: place by place, how many there are, and the word of those that pass a test,
 -- which a pass over the places makes a bit at a time.
-use Prim.Native.Nat.{ℕ, suc, _+_, _*_, _/_, _%_, _^_, _≤_, _<_}
+use Prim.Native.Nat.{ℕ, zero, suc, _+_, _*_, _/_, _%_, _^_, _≤_, _<_}
 use mathlib.Core.Bool.{Bool, true, false, not, cond, _&&_, _||_}
-use mathlib.Core.List.{[], _∷_}
+use mathlib.Core.List.{List, [], _∷_}
 use mathlib.Core.Path.{_≡_, refl, sym, ap, _∙_}
 use lib.Dec.{eqb}
 use lib.ListN.{length, getD, drop, drop-of-length-le}
@@ -16,48 +16,83 @@ use Rattle.places.proofs.Laws.Bits.{lowest-bit, bit-half, bit-none, power-next}
 use Rattle.places.proofs.Laws.Free.{held-step}
 use Rattle.register.specs.declared.Record.{Record}
 use Rattle.register.specs.Register.{Rows, filter, any}
-use Rattle.choosing.specs.Marked.{rowsAt, filterWord, nowhere}
+use Rattle.register.specs.Tallies.{Members, rowsOf}
+use Rattle.choosing.specs.Marked.{markedAt, filterWord, nowhere, nobody}
 
 -- ---- one place more
 
-pub rows-free : (word : ℕ) (m : Record) (ms : Rows) → isFree word ≡ true → rowsAt word (m ∷ ms) ≡ rowsAt (word / 2) ms
-unfolding rowsAt
-rows-free word m ms e = rw e refl
+pub marked-free :
+    {A : Type 0} (word : ℕ) (m : A) (ms : List A) → isFree word ≡ true → markedAt word (m ∷ ms) ≡ markedAt (word / 2) ms
+unfolding markedAt
+marked-free word m ms e = rw e refl
 
-pub rows-held :
-    (word : ℕ) (m : Record) (ms : Rows) → isFree word ≡ false → rowsAt word (m ∷ ms) ≡ m ∷ rowsAt (word / 2) ms
-unfolding rowsAt
-rows-held word m ms e = rw e refl
+pub marked-held :
+    {A : Type 0} (word : ℕ) (m : A) (ms : List A) → isFree word ≡ false →
+    markedAt word (m ∷ ms) ≡ m ∷ markedAt (word / 2) ms
+unfolding markedAt
+marked-held word m ms e = rw e refl
+
+-- ---- the rows of members
+
+-- the record of the member at a place
+pub row-at : (ms : Members) (place : ℕ) → getD (rowsOf ms) place nowhere ≡ getD ms place nobody .«record»
+unfolding rowsOf
+row-at [] place = refl
+row-at (m ∷ ms) zero = refl
+row-at (m ∷ ms) (suc place) = row-at ms place
+
+-- those that a word marks
+pub rows-of-marked : (word : ℕ) (ms : Members) → rowsOf (markedAt word ms) ≡ markedAt word (rowsOf ms)
+unfolding rowsOf markedAt
+rows-of-marked word [] = refl
+rows-of-marked word (m ∷ ms) = go (isFree word) (rows-of-marked (word / 2) ms)
+  where
+    go :
+        (t : Bool) → rowsOf (markedAt (word / 2) ms) ≡ markedAt (word / 2) (rowsOf ms) →
+        rowsOf (cond t (markedAt (word / 2) ms) (m ∷ markedAt (word / 2) ms))
+        ≡ cond t (markedAt (word / 2) (rowsOf ms)) (m .«record» ∷ markedAt (word / 2) (rowsOf ms))
+    go true same = same
+    go false same = ap (λ (rows : Rows). m .«record» ∷ rows) same
 
 -- ---- the word of those that pass a test
 
 filter-word-rows :
-    (yes : Bool) (rest : ℕ) (m : Record) (ms : Rows) →
-    rowsAt (bit yes + 2 * rest) (m ∷ ms) ≡ cond yes (m ∷ rowsAt rest ms) (rowsAt rest ms)
+    {A : Type 0} (yes : Bool) (rest : ℕ) (m : A) (ms : List A) →
+    markedAt (bit yes + 2 * rest) (m ∷ ms) ≡ cond yes (m ∷ markedAt rest ms) (markedAt rest ms)
 filter-word-rows true rest m ms =
-    rows-held (1 + 2 * rest) m ms (lowest-bit true rest) ∙ ap (λ (w : ℕ). m ∷ rowsAt w ms) (bit-half true rest)
+    marked-held (1 + 2 * rest) m ms (lowest-bit true rest) ∙ ap (λ (w : ℕ). m ∷ markedAt w ms) (bit-half true rest)
 filter-word-rows false rest m ms =
-    rows-free (0 + 2 * rest) m ms (lowest-bit false rest) ∙ ap (λ (w : ℕ). rowsAt w ms) (bit-half false rest)
+    marked-free (0 + 2 * rest) m ms (lowest-bit false rest) ∙ ap (λ (w : ℕ). markedAt w ms) (bit-half false rest)
 
 filter-step :
-    (test : Record → Bool) (word rest : ℕ) (m : Record) (ms : Rows) → (s : Bool) → isFree word ≡ s →
-    rowsAt rest ms ≡ filter test (rowsAt (word / 2) ms) →
-    rowsAt (bit (not s && test m) + 2 * rest) (m ∷ ms) ≡ filter test (rowsAt word (m ∷ ms))
+    {A : Type 0} (test : A → Bool) (word rest : ℕ) (m : A) (ms : List A) → (s : Bool) → isFree word ≡ s →
+    markedAt rest ms ≡ filter test (markedAt (word / 2) ms) →
+    markedAt (bit (not s && test m) + 2 * rest) (m ∷ ms) ≡ filter test (markedAt word (m ∷ ms))
 unfolding filter
 filter-step test word rest m ms true e same =
-    filter-word-rows false rest m ms ∙ same ∙ ap (filter test) (sym (rows-free word m ms e))
-filter-step test word rest m ms false e same =
+    filter-word-rows false rest m ms ∙ same ∙ ap (filter test) (sym (marked-free word m ms e))
+filter-step {A} test word rest m ms false e same =
     filter-word-rows (test m) rest m ms
-    ∙ ap (λ (rows : Rows). cond (test m) (m ∷ rows) rows) same
-    ∙ ap (filter test) (sym (rows-held word m ms e))
+    ∙ ap (λ (rows : List A). cond (test m) (m ∷ rows) rows) same
+    ∙ ap (filter test) (sym (marked-held word m ms e))
 
 -- the word marks exactly the rows that pass
-pub rows-filterWord :
-    (test : Record → Bool) (word : ℕ) (ms : Rows) → rowsAt (filterWord test word ms) ms ≡ filter test (rowsAt word ms)
-unfolding filterWord rowsAt filter
-rows-filterWord test word [] = refl
-rows-filterWord test word (m ∷ ms) =
-    filter-step test word (filterWord test (word / 2) ms) m ms (isFree word) refl (rows-filterWord test (word / 2) ms)
+pub marked-filterWord :
+    {A : Type 0} (test : A → Bool) (word : ℕ) (ms : List A) →
+    markedAt (filterWord test word ms) ms ≡ filter test (markedAt word ms)
+unfolding filterWord markedAt filter
+marked-filterWord test word [] = refl
+marked-filterWord test word (m ∷ ms) =
+    filter-step test word (filterWord test (word / 2) ms) m ms (isFree word) refl (marked-filterWord test (word / 2) ms)
+
+-- a test of the records is one of the members
+pub filterWord-rows :
+    (test : Record → Bool) (word : ℕ) (ms : Members) →
+    filterWord test word (rowsOf ms) ≡ filterWord (λ m. test (m .«record»)) word ms
+unfolding filterWord rowsOf
+filterWord-rows test word [] = refl
+filterWord-rows test word (m ∷ ms) =
+    ap (λ (n : ℕ). bit (not (isFree word) && test (m .«record»)) + 2 * n) (filterWord-rows test (word / 2) ms)
 
 fits-step : (yes : Bool) (k rest : ℕ) → rest < 2 ^ k → bit yes + 2 * rest < 2 ^ suc k
 fits-step true k rest h = omega (arith, pow-suc 2 k)
@@ -77,17 +112,17 @@ not-or false t = refl
 
 none-step :
     (test : Record → Bool) (word : ℕ) (m : Record) (ms : Rows) (b : Bool) → isFree word ≡ b →
-    (not (not b && test m) && not (any test (rowsAt (word / 2) ms))) ≡ not (any test (rowsAt word (m ∷ ms)))
+    (not (not b && test m) && not (any test (markedAt (word / 2) ms))) ≡ not (any test (markedAt word (m ∷ ms)))
 unfolding any
-none-step test word m ms true e = ap (λ (rows : Rows). not (any test rows)) (sym (rows-free word m ms e))
+none-step test word m ms true e = ap (λ (rows : Rows). not (any test rows)) (sym (marked-free word m ms e))
 none-step test word m ms false e =
-    not-or (test m) (any test (rowsAt (word / 2) ms))
-    ∙ ap (λ (rows : Rows). not (any test rows)) (sym (rows-held word m ms e))
+    not-or (test m) (any test (markedAt (word / 2) ms))
+    ∙ ap (λ (rows : Rows). not (any test rows)) (sym (marked-held word m ms e))
 
 -- the word is 0 exactly where no row passes
 pub word-none :
-    (test : Record → Bool) (word : ℕ) (ms : Rows) → eqb (filterWord test word ms) 0 ≡ not (any test (rowsAt word ms))
-unfolding filterWord any rowsAt
+    (test : Record → Bool) (word : ℕ) (ms : Rows) → eqb (filterWord test word ms) 0 ≡ not (any test (markedAt word ms))
+unfolding filterWord any markedAt
 word-none test word [] = refl
 word-none test word (m ∷ ms) =
     bit-none (not (isFree word) && test m) (filterWord test (word / 2) ms)
@@ -97,21 +132,22 @@ word-none test word (m ∷ ms) =
 -- ---- how many
 
 ones-step :
-    (word k : ℕ) (m : Record) (ms : Rows) → (s : Bool) → isFree word ≡ s → k ≡ length (rowsAt (word / 2) ms) →
-    word % 2 + k ≡ length (rowsAt word (m ∷ ms))
+    (word k : ℕ) (m : Record) (ms : Rows) → (s : Bool) → isFree word ≡ s → k ≡ length (markedAt (word / 2) ms) →
+    word % 2 + k ≡ length (markedAt word (m ∷ ms))
 ones-step word k m ms true e same =
     let even : word % 2 ≡ 0 = eqb-true (word % 2) 0 e in
-    let rows : length (rowsAt word (m ∷ ms)) ≡ length (rowsAt (word / 2) ms) = ap length (rows-free word m ms e) in
+    let rows : length (markedAt word (m ∷ ms)) ≡ length (markedAt (word / 2) ms) =
+    ap length (marked-free word m ms e) in
     omega (arith, even, rows, same)
 ones-step word k m ms false e same =
     let odd : word % 2 ≡ 0 → ⊥ = eqb-false (word % 2) 0 e in
-    let rows : length (rowsAt word (m ∷ ms)) ≡ suc (length (rowsAt (word / 2) ms)) =
-    ap length (rows-held word m ms e) in
+    let rows : length (markedAt word (m ∷ ms)) ≡ suc (length (markedAt (word / 2) ms)) =
+    ap length (marked-held word m ms e) in
     omega (arith, odd, rows, same)
 
 -- as many rows as places held
-pub ones-of-rows : (word : ℕ) (ms : Rows) → heldIn (length ms) word ≡ length (rowsAt word ms)
-unfolding heldIn rowsAt
+pub ones-of-rows : (word : ℕ) (ms : Rows) → heldIn (length ms) word ≡ length (markedAt word ms)
+unfolding heldIn markedAt
 ones-of-rows word [] = refl
 ones-of-rows word (m ∷ ms) =
     held-step (length ms) word
@@ -126,17 +162,17 @@ filterWord-step :
 unfolding filterWord
 filterWord-step test word ms i h = rw (add-one i, drop-cons ms i nowhere h) refl
 
-pub rows-free-at :
+pub marked-free-at :
     (word : ℕ) (ms : Rows) (i : ℕ) → i < length ms → isFree word ≡ true →
-    rowsAt word (drop i ms) ≡ rowsAt (word / 2) (drop (i + 1) ms)
-rows-free-at word ms i h e =
-    rw (add-one i, drop-cons ms i nowhere h) (rows-free word (getD ms i nowhere) (drop (suc i) ms) e)
+    markedAt word (drop i ms) ≡ markedAt (word / 2) (drop (i + 1) ms)
+marked-free-at word ms i h e =
+    rw (add-one i, drop-cons ms i nowhere h) (marked-free word (getD ms i nowhere) (drop (suc i) ms) e)
 
-pub rows-held-at :
+pub marked-held-at :
     (word : ℕ) (ms : Rows) (i : ℕ) → i < length ms → isFree word ≡ false →
-    rowsAt word (drop i ms) ≡ getD ms i nowhere ∷ rowsAt (word / 2) (drop (i + 1) ms)
-rows-held-at word ms i h e =
-    rw (add-one i, drop-cons ms i nowhere h) (rows-held word (getD ms i nowhere) (drop (suc i) ms) e)
+    markedAt word (drop i ms) ≡ getD ms i nowhere ∷ markedAt (word / 2) (drop (i + 1) ms)
+marked-held-at word ms i h e =
+    rw (add-one i, drop-cons ms i nowhere h) (marked-held word (getD ms i nowhere) (drop (suc i) ms) e)
 
 -- a power over a bit and what stands above it
 regrouped : (kept p d k : ℕ) → kept + p * (d + 2 * k) ≡ kept + d * p + p * 2 * k

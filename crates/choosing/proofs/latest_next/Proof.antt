@@ -26,7 +26,7 @@ returns-2 c =
     let after = c .before .before in
     let x = after .before .before .args in
     let candidate-at = after .candidate-at in
-    let next : Candidate = candidateAt (x .rate) (x .at) (x .place) (x .row) in
+    let next : Candidate = candidateAt (x .rate) (x .at) (x .place) (x .member .«record») in
     candidate-stays (x .word) (x .latest) (candidate-at .result) next (after .before .if1 .left)
     (candidate-at .ensures)
     (c .before .stays-latest .ensures)
@@ -37,7 +37,7 @@ returns-3 c =
     let after = c .before .before in
     let x = after .before .before .args in
     let candidate-at = after .candidate-at in
-    let next : Candidate = candidateAt (x .rate) (x .at) (x .place) (x .row) in
+    let next : Candidate = candidateAt (x .rate) (x .at) (x .place) (x .member .«record») in
     candidate-changes (x .word) (x .latest) (candidate-at .result) next (after .before .if1 .left)
     (candidate-at .ensures)
     (c .before .stays-latest .ensures)

@@ -3,13 +3,16 @@ use Prim.Native.Nat.{_-_, _≤_, _<_}
 use lib.ListN.{length}
 use native.Mathlib.Omega.{arith}
 use borrow.Author.Needs.{needs}
+use Rattle.register.specs.Tallies.{rowsOf}
+use Rattle.register.proofs.Tallies.{length-rows}
+use Rattle.choosing.proofs.Laws.Marked.{row-at}
 use Rattle.choosing.proofs.Laws.Candidates.{LatestSoFar, latest-start, latest-step, latest-end}
 use Rattle.choosing.proofs.latest_place.Statement.{statement}
 use Rattle.choosing.proofs.latest_place.Tie as tie
 
 abbrev Inv-loop : tie.InvT-loop
 Inv-loop word rate at members latest₀ rest₀ i₀ latest rest i =
-    (i ≤ 64) × LatestSoFar rate at word members latest rest i
+    (i ≤ 64) × LatestSoFar rate at word (rowsOf members) latest rest i
 
 abbrev μ-loop : tie.MeasureT-loop
 μ-loop word rate at members latest₀ rest₀ i₀ latest rest i = 64 - i
@@ -37,14 +40,18 @@ loop-again c =
     let around = c .before .before .before in
     let start = around .before in
     let loop = around .loop in
-    let within : loop .i < length (start .args .t2) = omega (arith, start .good) in
-    (omega arith, latest-step (omega arith) within (loop .inv .1) (c .latest-next .ensures))
+    let ms = start .args .t2 in
+    let within : loop .i < length (rowsOf ms) = omega (arith, start .good, length-rows ms) in (
+      omega arith,
+      latest-step (omega arith) within (loop .inv .1) (rw (← row-at ms (loop .i)) at (c .latest-next .ensures)),
+    )
 
 returns : tie.Need-returns Inv-loop μ-loop
 returns c =
     let start = c .before .before in
     let loop = c .before .loop in
-    let all : length (start .args .t2) ≤ loop .i = omega (arith, start .good) in
+    let ms = start .args .t2 in
+    let all : length (rowsOf ms) ≤ loop .i = omega (arith, start .good, length-rows ms) in
     latest-end all (loop .inv .1)
 
 pub latest-place-spec : {M : Type 1} → statement M

@@ -34,8 +34,8 @@ told-requires c κs = search needs
 printed-requires : tie.Need-printed-requires Inv-loop μ-loop
 printed-requires c κs = search needs
 
-tallied-requires : tie.Need-tallied-requires Inv-loop μ-loop
-tallied-requires c κs = search needs
+scored-requires : tie.Need-scored-requires Inv-loop μ-loop
+scored-requires c κs = search needs
 
 kept-requires : tie.Need-kept-requires Inv-loop μ-loop
 kept-requires c κs = search needs
@@ -84,7 +84,7 @@ run-spec =
     line-at-requires
     told-requires
     printed-requires
-    tallied-requires
+    scored-requires
     kept-requires
     record-behind-requires
     scene-behind-requires

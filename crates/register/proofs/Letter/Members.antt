@@ -27,7 +27,7 @@ member-right [] m = m
 member-right (z ∷ zs) m = List·Memᴰ·tail (member-right zs m)
 
 -- where a history of one event more is split at an event: that event is the last one, or lies in the history before it
-data Split (h : History) (e : Event) (before : History) (r : Event) (behind : History) : Type 0 where
+pub data Split (h : History) (e : Event) (before : History) (r : Event) (behind : History) : Type 0 where
   here : h ≡ before → e ≡ r → behind ≡ [] → Split h e before r behind
   there : (rest : History) → h ≡ before ++ (r ∷ rest) → behind ≡ rest ++ (e ∷ []) → Split h e before r behind
 
@@ -41,7 +41,7 @@ split-cons :
 split-cons x b same (here p q k) = here (cc) q k
 split-cons x b same (there rest p k) = there rest (cc) k
 
-split-last :
+pub split-last :
     (h : History) (e : Event) (before : History) (r : Event) (behind : History) →
     h ++ (e ∷ []) ≡ before ++ (r ∷ behind) → Split h e before r behind
 split-last [] e [] r behind p = let same : e ≡ r = cc in let rest : [] ≡ behind = cc in here refl same (sym rest)

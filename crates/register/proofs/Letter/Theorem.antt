@@ -1,6 +1,7 @@
--- The letter's sentences hold of the plain register: by induction over the calls, its rows are all that stand.
+-- The letter's sentences hold of the plain register: by induction over the calls, its rows are all that stand, and the
+-- tallies beside them the history's.
 use Prim.Native.Nat.{ℕ}
-use mathlib.Core.Bool.{Bool, true, false, not}
+use mathlib.Core.Bool.{Bool, true, false, not, cond, and-true}
 use mathlib.Core.List.{List, [], _∷_, _++_, append-assoc, append-nil, List·Memᴰ, List·Memᴰ·not-nil}
 use mathlib.Core.Logic.{inl, inr, ⊎-elim, _↔_}
 use mathlib.Core.Path.{_≡_, refl, sym, ap, ap₂, subst, _∙_}
@@ -9,19 +10,24 @@ use native.Mathlib.Omega.{arith}
 use borrow.Author.Tests.{eqb-true, eqb-false, eq-eqb, ne-eqb}
 use Rattle.refusals.specs.Refusals.{otherOrigin}
 use Rattle.register.specs.declared.Record.{Record}
+use Rattle.register.specs.declared.Member.{Member}
 use Rattle.register.specs.declared.Reading.{Reading}
 use Rattle.register.specs.Register.{Opening, Rows, Call, filter, hasNumber, isOtherStream, answer, freshAt}
-use Rattle.register.specs.Register.{accepted, after, answers, afterAll}
+use Rattle.register.specs.Register.{any, accepted, after, answers}
+use Rattle.register.specs.Tallies.{Members, rowsOf, raised, isUnder, tallyIn, tallyAfter, membersAfter}
+use Rattle.register.specs.Tallies.{membersAfterAll}
 use Rattle.register.specs.Letter.{got, History, history, madeIn, OfEachCall, OtherStream, Ends, Stands, AreAll}
 use Rattle.register.specs.Letter.{HeldElsewhere, linesOf, NoneOf, MeansBehind, Means, FromTwin, TwinGets}
-use Rattle.register.specs.Letter.{TwinAltersNothing, Letter}
-use Rattle.register.proofs.History.{rows-append}
+use Rattle.register.specs.Letter.{TallyIs, tallied, TwinAltersTallyAlone, Letter}
 use Rattle.register.proofs.Rows.{clash, kept-member, member-kept}
 use Rattle.register.proofs.Permuted.{unique-after}
+use Rattle.register.proofs.Tallies.{Kept, kept-none, kept-after, rows-after, members-append, tally-after}
+use Rattle.register.proofs.Tallies.{number-of-row}
 use Rattle.register.proofs.Letter.Lines.{Tells, tells-equal, tells-not, stable}
 use Rattle.register.proofs.Letter.Members.{no-cons, each-none, each-more, StandsAfter, stands-more, OwnOrOther}
 use Rattle.register.proofs.Letter.Members.{member-renewed}
 use Rattle.register.proofs.Letter.Tests.{tells-other-stream, tells-fresh, answer-means}
+use Rattle.register.proofs.Letter.Tallies.{TalliesOfHistory, tallied-more}
 
 -- ---- the rows that a call leaves
 
@@ -75,14 +81,16 @@ module _ (o : Opening) (h : History) (rows : Rows) (all : AreAll o h rows) where
 
 -- ---- one call more
 
--- the rows after the calls of a history, in the register's own terms
-abbrev pub IsRow : Opening → History → Record → Type 0
-IsRow o h x = List·Memᴰ x (afterAll o [] (madeIn h))
+-- the members after the calls of a history, in the register's own terms
+abbrev pub IsMember : Opening → History → Member → Type 0
+IsMember o h m = List·Memᴰ m (membersAfterAll o [] (madeIn h))
 
--- after a history, these are the register's rows, and all that stand
-pub record Told (o : Opening) (h : History) (rows : Rows) : Type 0 where
-  pub all : AreAll o h rows
-  pub rows-are : afterAll o [] (madeIn h) ≡ rows
+-- after a history, these are the register's members: their rows are all that stand, and their tallies the history's
+pub record Told (o : Opening) (h : History) (ms : Members) : Type 0 where
+  pub all : AreAll o h (rowsOf ms)
+  pub kept : Kept ms
+  pub tallied : TalliesOfHistory o h ms
+  pub members-are : membersAfterAll o [] (madeIn h) ≡ ms
 
 after-refused : (o : Opening) (rows : Rows) (call : Call) → (answer o rows call ≡ 0 → ⊥) → after o rows call ≡ rows
 unfolding after
@@ -132,24 +140,54 @@ unfolding madeIn
 made-more [] call number = refl
 made-more (got first n ∷ h) call number = ap (λ (calls : List Call). first ∷ calls) (made-more h call number)
 
-told-more :
-    (o : Opening) (h : History) (rows : Rows) → Told o h rows → (call : Call) →
-    Told o (h ++ (got call (answer o rows call) ∷ [])) (after o rows call)
-unfolding afterAll
-told-more o h rows told call =
+-- the rows that a call leaves are all that then stand
+all-more :
+    (o : Opening) (h : History) (rows : Rows) → AreAll o h rows → (call : Call) →
+    AreAll o (h ++ (got call (answer o rows call) ∷ [])) (after o rows call)
+all-more o h rows all call =
     record {
-      all = record {
-        unique = unique-after o call rows (told .all .unique);
-        those = λ y.
-            let here : _ = after-stand o h rows (told .all) call y in
-            let more : _ = stands-more o h (got call (answer o rows call)) y in
-            (λ m. more .1 (here .0 m), λ s. here .1 (more .0 s));
-      };
-      rows-are =
-          ap (afterAll o []) (made-more h call (answer o rows call))
-          ∙ rows-append o [] (madeIn h) (call ∷ [])
-          ∙ ap (λ (rs : Rows). after o rs call) (told .rows-are);
+      unique = unique-after o call rows (all .unique);
+      those = λ y.
+          let here : _ = after-stand o h rows all call y in
+          let more : _ = stands-more o h (got call (answer o rows call)) y in
+          (λ m. more .1 (here .0 m), λ s. here .1 (more .0 s));
     }
+
+told-more :
+    (o : Opening) (h : History) (ms : Members) → Told o h ms → (call : Call) →
+    Told o (h ++ (got call (answer o (rowsOf ms) call) ∷ [])) (membersAfter o ms call)
+unfolding membersAfterAll
+told-more o h ms told call =
+    record {
+      all = rw (rows-after o ms call) (all-more o h (rowsOf ms) (told .all) call);
+      kept = kept-after o ms call;
+      tallied =
+          tallied-more o h ms (told .all) call (told .tallied)
+          (λ y. after-stand o h (rowsOf ms) (told .all) call y .0);
+      members-are =
+          ap (membersAfterAll o []) (made-more h call (answer o (rowsOf ms) call))
+          ∙ members-append o [] (madeIn h) (call ∷ [])
+          ∙ ap (λ (those : Members). membersAfter o those call) (told .members-are);
+    }
+
+-- the members are those that stand, with the history's tallies
+told-members :
+    (o : Opening) (h : History) (ms : Members) → Told o h ms → (m : Member) →
+    List·Memᴰ m ms ↔ (Stands o h (m .«record») × TallyIs o h (m .«record» .source) (m .tally))
+told-members o h ms told m = (
+  λ member.
+      let both : _ = told .kept m .0 member in
+      (told .all .those x .0 (both .0), told .tallied (x .source) (held (both .0)) (m .tally) .1 (both .1)),
+  λ both.
+      let row : List·Memᴰ x (rowsOf ms) = told .all .those x .1 (both .0) in
+      told .kept m .1 (row, told .tallied (x .source) (held row) (m .tally) .0 (both .1)),
+)
+  where
+    x : Record
+    x = m .«record»
+
+    held : List·Memᴰ (m .«record») (rowsOf ms) → any (hasNumber (m .«record» .source)) (rowsOf ms) ≡ true
+    held = number-of-row (m .«record») (rowsOf ms)
 
 -- ---- twins
 
@@ -178,46 +216,74 @@ twin-refused o h (Call.sweep at) number means x s twin = absurd twin
 
 -- ---- the sentences
 
+-- a twin's call is under the member's number
+twin-under : (x : Record) (call : Call) → FromTwin x call → isUnder (x .source) call ≡ true
+twin-under x (Call.report y at) twin = eq-eqb (y .source) (x .source) (twin .0)
+twin-under x (Call.farewell source origin) twin = eq-eqb source (x .source) (twin .0)
+twin-under x (Call.sweep at) twin = absurd twin
+
+-- refused, it leaves the member, with 14 tallied
+twin-tallied :
+    (o : Opening) (ms : Members) (call : Call) (m : Member) → Kept ms → List·Memᴰ m ms → FromTwin (m .«record») call →
+    (answer o (rowsOf ms) call ≡ 0 → ⊥) →
+    List·Memᴰ (tallied (answer o (rowsOf ms) call) m) (membersAfter o ms call)
+twin-tallied o ms call m kept member twin refused =
+    let x : Record = m .«record» in
+    let both : _ = kept m .0 member in
+    let row : List·Memᴰ x (after o (rowsOf ms) call) =
+    rw (after-refused o (rowsOf ms) call refused) (both .0) in
+    let own : tallyAfter o ms call (x .source) ≡ tallied (answer o (rowsOf ms) call) m .tally =
+    rw (twin-under x call twin, ← both .1) (ap (λ (t : Bool). cond t (raised (m .tally)) (m .tally))
+    (and-true (eqb (answer o (rowsOf ms) call) otherOrigin))) in
+    kept-after o ms call (tallied (answer o (rowsOf ms) call) m) .1
+    (rw (rows-after o ms call) row, sym (tally-after o ms call (x .source) (number-of-row x _ row) ∙ own))
+
 -- what the letter says of one call, its answer and the members that it leaves
 abbrev Says : Opening → History → Call → ℕ → Type 0
-Says o h call number = TwinAltersNothing o (IsRow o) h call number × Means (linesOf o h call) number
+Says o h call number = TwinAltersTallyAlone o (IsMember o) h call number × Means (linesOf o h call) number
 
 says-next :
-    (o : Opening) (h : History) (rows : Rows) → Told o h rows → (call : Call) → Says o h call (answer o rows call)
-says-next o h rows told call = (twins, means)
+    (o : Opening) (h : History) (ms : Members) → Told o h ms → (call : Call) →
+    Says o h call (answer o (rowsOf ms) call)
+says-next o h ms told call = (twins, means)
   where
-    means : Means (linesOf o h call) (answer o rows call)
-    means = answer-means o h rows (told .all) call
+    means : Means (linesOf o h call) (answer o (rowsOf ms) call)
+    means = answer-means o h (rowsOf ms) (told .all) call
 
-    twins : TwinAltersNothing o (IsRow o) h call (answer o rows call)
-    twins x row twin =
-        let member : List·Memᴰ x rows = rw (told .rows-are) at row in
-        let gets : _ = twin-refused o h call (answer o rows call) means x (told .all .those x .0 member) twin in (
+    twins : TwinAltersTallyAlone o (IsMember o) h call (answer o (rowsOf ms) call)
+    twins m is twin =
+        let member : List·Memᴰ m ms = rw (told .members-are) at is in
+        let stands : Stands o h (m .«record») = told-members o h ms told m .0 member .0 in
+        let gets : _ = twin-refused o h call (answer o (rowsOf ms) call) means (m .«record») stands twin in (
           gets .0,
-          rw (told-more o h rows told call .rows-are, after-refused o rows call (gets .1)) member,
+          rw (told-more o h ms told call .members-are)
+              (twin-tallied o ms call m (told .kept) member twin (gets .1)),
         )
 
 follows :
-    (o : Opening) (h : History) (rows : Rows) (calls : List Call) → Told o h rows → OfEachCall (Says o) h →
-    Told o (h ++ history calls (answers o rows calls)) (afterAll o rows calls)
-    × OfEachCall (Says o) (h ++ history calls (answers o rows calls))
-unfolding history answers afterAll
-follows o h rows [] told each = rw (append-nil h) (told, each)
-follows o h rows (call ∷ calls) told each =
+    (o : Opening) (h : History) (ms : Members) (calls : List Call) → Told o h ms → OfEachCall (Says o) h →
+    Told o (h ++ history calls (answers o (rowsOf ms) calls)) (membersAfterAll o ms calls)
+    × OfEachCall (Says o) (h ++ history calls (answers o (rowsOf ms) calls))
+unfolding history answers membersAfterAll
+follows o h ms [] told each = rw (append-nil h) (told, each)
+follows o h ms (call ∷ calls) told each =
+    let number : ℕ = answer o (rowsOf ms) call in
     let next : _ =
-    follows o (h ++ (got call (answer o rows call) ∷ [])) (after o rows call) calls (told-more o h rows told call)
-    (each-more (Says o) h call (answer o rows call) each (says-next o h rows told call)) in
-    rw (append-assoc h (got call (answer o rows call) ∷ []) _) at next
+    follows o (h ++ (got call number ∷ [])) (membersAfter o ms call) calls (told-more o h ms told call)
+    (each-more (Says o) h call number each (says-next o h ms told call)) in
+    rw (append-assoc h (got call number ∷ []) _, rows-after o ms call) at next
 
 told-none : (o : Opening) → Told o [] []
-unfolding filter madeIn afterAll
+unfolding filter madeIn membersAfterAll rowsOf any
 told-none o =
     record {
       all = record {
         unique = λ source. omega arith;
         those = λ x. (λ m. absurd (List·Memᴰ·not-nil m), λ s. absurd (no-cons (s .before) _ (s .behind) (s .reported)));
       };
-      rows-are = refl;
+      kept = kept-none;
+      tallied = λ source held. clash held;
+      members-are = refl;
     }
 
 -- each call got an answer
@@ -242,35 +308,44 @@ beginning o rows (call ∷ calls) (got first n ∷ before) behind e =
     beginning o (after o rows call) calls before behind rest in
     rw (← same) (ap₂ _∷_ (ap (got call) (sym number)) more)
 
--- Whatever the calls, the letter's sentences hold of the register's answers and rows.
-pub letter : (o : Opening) (calls : List Call) → Letter o (history calls (answers o [] calls)) (IsRow o)
+-- Whatever the calls, the letter's sentences hold of the register's answers and members.
+pub letter : (o : Opening) (calls : List Call) → Letter o (history calls (answers o [] calls)) (IsMember o)
+unfolding rowsOf
 letter o calls =
     record {
       members = λ before behind e.
           let begins : _ = beginning o [] calls before behind e in
-          let there : Told o before (afterAll o [] (madeIn before)) = rw (← begins) at (run (madeIn before) .0) in
-          there .all .those;
+          let there : Told o before (membersAfterAll o [] (madeIn before)) =
+          rw (← begins) at (run (madeIn before) .0) in
+          told-members o before (membersAfterAll o [] (madeIn before)) there;
+      all = λ before behind e x s.
+          let begins : _ = beginning o [] calls before behind e in
+          let ms : Members = membersAfterAll o [] (madeIn before) in
+          let there : Told o before ms = rw (← begins) at (run (madeIn before) .0) in
+          (tallyIn ms (x .source), there .kept _ .1 (there .all .those x .1 s, refl));
       twins = λ before call number behind e. run calls .1 before call number behind e .0;
       refusals = λ before call number behind e. run calls .1 before call number behind e .1;
     }
   where
     run :
         (those : List Call) →
-        Told o (history those (answers o [] those)) (afterAll o [] those)
+        Told o (history those (answers o [] those)) (membersAfterAll o [] those)
         × OfEachCall (Says o) (history those (answers o [] those))
     run those = follows o [] [] those (told-none o) (each-none (Says o))
 
 -- ... and of whoever shows the same members.
 pub letter-shown :
-    (o : Opening) (h : History) (Shown Other : History → Record → Type 0) →
-    ((g : History) (x : Record) → Shown g x ↔ Other g x) → Letter o h Shown → Letter o h Other
+    (o : Opening) (h : History) (Shown Other : History → Member → Type 0) →
+    ((g : History) (m : Member) → Shown g m ↔ Other g m) → Letter o h Shown → Letter o h Other
 letter-shown o h Shown Other same l =
     record {
-      members = λ before behind e x.
-          let member : _ = l .members before behind e x in
-          (λ m. member .0 (same before x .1 m), λ s. same before x .0 (member .1 s));
-      twins = λ before call number behind e x shown twin.
-          let gets : _ = l .twins before call number behind e x (same before x .1 shown) twin in
-          (gets .0, same (before ++ (got call number ∷ [])) x .0 (gets .1));
+      members = λ before behind e m.
+          let member : _ = l .members before behind e m in
+          (λ shown. member .0 (same before m .1 shown), λ s. same before m .0 (member .1 s));
+      all = λ before behind e x s.
+          let member : _ = l .all before behind e x s in (member .0, same before _ .0 (member .1));
+      twins = λ before call number behind e m shown twin.
+          let gets : _ = l .twins before call number behind e m (same before m .1 shown) twin in
+          (gets .0, same (before ++ (got call number ∷ [])) (tallied number m) .0 (gets .1));
       refusals = l .refusals;
     }

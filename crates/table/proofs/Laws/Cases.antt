@@ -1,32 +1,39 @@
 -- What each return of a call answers, from the tests that led there.
 use Prim.Native.Nat.{ℕ, _≤_, _<_}
-use mathlib.Core.Bool.{Bool, true, false}
-use mathlib.Core.Path.{_≡_, refl, _∙_}
+use mathlib.Core.Bool.{Bool, true, false, cond, _&&_, and-eq-true-iff}
+use mathlib.Core.Path.{_≡_, refl, sym, ap, _∙_}
 use mathlib.Core.List.{[], _∷_}
 use mathlib.Core.Logic.{⊎-elim}
-use lib.Dec.{eqb}
+use lib.Dec.{ltb, eqb}
 use lib.ListN.{getD, set}
 use native.Mathlib.Omega.{arith}
-use borrow.Author.Tests.{eqb-false, ne-eqb, lt-ltb, le-ltb}
+use borrow.Author.Tests.{eqb-false, ne-eqb, ltb-true, lt-ltb, le-ltb}
 use denote.Enum.Declared.{tagOf}
 use types.Run.{OneOf}
 use Rattle.idms.proofs.Item.{the-type}
 use Rattle.idms.specs.declared.Item.{Item}
-use Rattle.refusals.specs.Refusals.{badOpening, otherOrigin, noMember}
+use Rattle.refusals.specs.Refusals.{badOpening, otherStream, otherOrigin, receivedFar, rtpAged, badlyPresented}
+use Rattle.refusals.specs.Refusals.{noRoom, noMember}
+use Rattle.times.specs.Times.{isFar, isAged, isBadlyPresented}
 use Rattle.places.proofs.Laws.Free.{lowest-free-within}
 use Rattle.origin.specs.declared.Origin.{Origin}
 use Rattle.places.specs.Places.{holdsPlace, lowestFree, withPlace, withoutPlace}
 use Rattle.register.specs.declared.Record.{Record}
+use Rattle.register.specs.declared.Member.{Member}
 use Rattle.register.specs.declared.Reading.{Reading}
-use Rattle.register.specs.Register.{Opening, Rows, Call, isRefusedOpening, reportChecks, farewellChecks}
+use Rattle.register.specs.Register.{Opening, Rows, Call, isRefusedOpening, presents, isOtherStream}
+use Rattle.register.specs.Register.{reportChecks, farewellChecks}
+use Rattle.register.specs.Tallies.{Members, raised}
 use Rattle.register.proofs.Stands.{accepted-room}
-use Rattle.choosing.specs.Marked.{nowhere}
+use Rattle.register.proofs.Tallies.{rows-set}
+use Rattle.choosing.specs.Marked.{nowhere, nobody}
+use Rattle.choosing.proofs.Laws.Marked.{row-at}
 use Rattle.table.specs.declared.Table.{Table}
 use Rattle.table.specs.declared.Place.{Place}
 use Rattle.table.specs.declared.Answered.{Answered}
 use Rattle.table.specs.declared.Outcome.{Outcome}
 use Rattle.table.specs.declared.Taken.{Taken}
-use Rattle.table.specs.Members.{openingOf, emptyTable, vacant, placeAt, placeIn}
+use Rattle.table.specs.Members.{openingOf, emptyTable, vacant, placeAt, recordsIn, placeIn}
 use Rattle.table.specs.Calls.{
   opened,
   isMember,
@@ -36,11 +43,17 @@ use Rattle.table.specs.Calls.{
   isWithoutRoom,
   numberOf,
   withHeld,
+  withMember,
+  tallyAt,
   filed,
   acceptedBy,
+  withRaised,
+  sourceOf,
+  refusedBy,
   answered,
 }
 use Rattle.table.specs.Intake.{callTaken, taken}
+use Rattle.table.proofs.Laws.Members.{set-same}
 
 -- ---- opening
 
@@ -67,22 +80,30 @@ unfolding placeAt
 place-free t place s e h = rw e h
 
 pub place-held :
-    (t : Table) → (place : ℕ) → (x : Record) → holdsPlace (t .held) place ≡ true →
-    x ≡ getD (t .members) place nowhere →
-    record { held = 1; member = x } ≡ placeAt t place
+    (t : Table) → (place : ℕ) → (m : Member) → holdsPlace (t .held) place ≡ true →
+    m ≡ getD (t .members) place nobody →
+    record { held = 1; member = m } ≡ placeAt t place
 unfolding placeAt
-place-held t place x e h = rw (e, h) refl
+place-held t place m e h = rw (e, h) refl
 
 -- ---- any call
 
--- refused, it leaves the table as it was
+-- refused with another number than 14, it leaves the table as it was
 pub call-refused :
-    (t : Table) → (call : Call) → (n : ℕ) → n ≡ numberOf t call → (n ≡ 0 → ⊥) →
+    (t : Table) → (call : Call) → (n : ℕ) → n ≡ numberOf t call → (n ≡ 0 → ⊥) → (n ≡ otherOrigin → ⊥) →
     record { number = n; table = t } ≡ answered t call
-unfolding answered
-call-refused t call n e h =
+unfolding answered refusedBy
+call-refused t call n e h k =
     let refused : eqb (numberOf t call) 0 ≡ false = ne-eqb (numberOf t call) 0 (λ z. h (e ∙ z)) in
-    rw (refused, e) refl
+    let other : eqb (numberOf t call) otherOrigin ≡ false = ne-eqb (numberOf t call) otherOrigin (λ z. k (e ∙ z)) in
+    rw (refused, other, e) refl
+
+-- refused with 14, it leaves a table with that tallied
+call-tallied :
+    (t t′ : Table) → (call : Call) → numberOf t call ≡ otherOrigin → t′ ≡ withRaised t (placeIn t (sourceOf call)) →
+    record { number = otherOrigin; table = t′ } ≡ answered t call
+unfolding answered refusedBy
+call-tallied t t′ call e h = rw (e, h) refl
 
 pub call-accepted :
     (t t′ : Table) → (call : Call) → numberOf t call ≡ 0 → t′ ≡ acceptedBy t call →
@@ -96,13 +117,21 @@ module _ (t : Table) (source place : ℕ) (e : place ≡ placeIn t source) where
   -- what the search and the record at the place say of an origin
   pub elsewhere-there :
       (origin : Origin) → (b : Bool) →
-      b ≡ elsewhereAt (t .members) place origin →
+      b ≡ elsewhereAt (recordsIn t) place origin →
       b ≡ isElsewhere t source origin
   elsewhere-there origin b h = rw e at h
 
   pub without-room-there :
       (b : Bool) → b ≡ noRoomAt place (t .held) → b ≡ isWithoutRoom t source
   without-room-there b h = rw e at h
+
+-- the number's record has another origin at one of the 64 places alone
+pub elsewhere-below :
+    (records : Rows) (place : ℕ) (origin : Origin) {b : Bool} → b ≡ true → b ≡ elsewhereAt records place origin →
+    place < 64
+elsewhere-below records place origin e f =
+    ltb-true place 64
+    (and-eq-true-iff (ltb place 64) _ .0 (sym f ∙ e) .0)
 
 -- ---- a farewell
 
@@ -112,15 +141,15 @@ module _ (t : Table) (source place : ℕ) (origin : Origin) (e : place ≡ place
   unfolding numberOf farewellChecks
   farewell-stranger h =
       let new : isMember t source ≡ false = le-ltb (placeIn t source) 64 (omega arith) in
-      call-refused t (Call.farewell source origin) noMember (rw new refl) (λ z. omega arith)
+      call-refused t (Call.farewell source origin) noMember (rw new refl) (λ z. omega arith) (λ z. omega arith)
 
   pub farewell-elsewhere :
-      place < 64 → isElsewhere t source origin ≡ true →
-      record { number = otherOrigin; table = t } ≡ answered t (Call.farewell source origin)
+      (t′ : Table) → place < 64 → isElsewhere t source origin ≡ true → t′ ≡ withRaised t place →
+      record { number = otherOrigin; table = t′ } ≡ answered t (Call.farewell source origin)
   unfolding numberOf farewellChecks
-  farewell-elsewhere h f =
+  farewell-elsewhere t′ h f g =
       let known : isMember t source ≡ true = lt-ltb (placeIn t source) 64 (omega arith) in
-      call-refused t (Call.farewell source origin) otherOrigin (rw (f, known) refl) (λ z. omega arith)
+      call-tallied t t′ (Call.farewell source origin) (rw (f, known) refl) (rw e at g)
 
   pub farewell-taken :
       (word : ℕ) → place < 64 → isElsewhere t source origin ≡ false → word ≡ withoutPlace (t .held) place →
@@ -132,20 +161,51 @@ module _ (t : Table) (source place : ℕ) (origin : Origin) (e : place ≡ place
 
 -- ---- a report
 
+-- 14 is the answer of the second check alone
+second-check :
+    (a elsewhere c d e full : Bool) →
+    cond a otherStream
+    (cond elsewhere otherOrigin (cond c receivedFar (cond d rtpAged (cond e badlyPresented (cond full noRoom 0)))))
+    ≡ otherOrigin →
+    elsewhere ≡ true
+second-check a true c d e full z = refl
+second-check true false c d e full z = absurd (omega (arith, z))
+second-check false false true d e full z = absurd (omega (arith, z))
+second-check false false false true e full z = absurd (omega (arith, z))
+second-check false false false false true full z = absurd (omega (arith, z))
+second-check false false false false false true z = absurd (omega (arith, z))
+second-check false false false false false false z = absurd (omega (arith, z))
+
+pub report-elsewhere :
+    (o : Opening) (x : Record) (at : Reading) (elsewhere full : Bool) →
+    reportChecks o x at elsewhere full ≡ otherOrigin → elsewhere ≡ true
+unfolding reportChecks
+report-elsewhere o x at elsewhere full e =
+    second-check (isOtherStream o (x .report .group) (x .report .media)) elsewhere
+    (isFar (at .ntp) (x .report .received)) (isAged (o .rate) (at .rtp) (x .report .rtp))
+    (presents x && isBadlyPresented (x .report .received) (x .report .presented)) full e
+
 module _ (t : Table) (x : Record) (at : Reading) where
   -- the number, from what the search says of the report's source
   pub report-number-there :
-      (place : ℕ) → (elsewhere noRoom : Bool) → (n : ℕ) → place ≡ placeIn t (x .source) →
-      elsewhere ≡ elsewhereAt (t .members) place (x .origin) →
-      noRoom ≡ noRoomAt place (t .held) →
-      n ≡ reportChecks (openingOf t) x at elsewhere noRoom →
+      (place : ℕ) → (elsewhere full : Bool) → (n : ℕ) → place ≡ placeIn t (x .source) →
+      elsewhere ≡ elsewhereAt (recordsIn t) place (x .origin) →
+      full ≡ noRoomAt place (t .held) →
+      n ≡ reportChecks (openingOf t) x at elsewhere full →
       n ≡ numberOf t (Call.report x at)
   unfolding numberOf
-  report-number-there place elsewhere noRoom n e f g h =
+  report-number-there place elsewhere full n e f g h =
       let there : elsewhere ≡ isElsewhere t (x .source) (x .origin) =
       elsewhere-there t (x .source) place e (x .origin) elsewhere f in
-      let room : noRoom ≡ isWithoutRoom t (x .source) = without-room-there t (x .source) place e noRoom g in
+      let room : full ≡ isWithoutRoom t (x .source) = without-room-there t (x .source) place e full g in
       rw (there, room) at h
+
+  pub report-tallied :
+      (place n : ℕ) → (t′ : Table) → n ≡ numberOf t (Call.report x at) → n ≡ otherOrigin →
+      place ≡ placeIn t (x .source) →
+      t′ ≡ withRaised t place → record { number = n; table = t′ } ≡ answered t (Call.report x at)
+  report-tallied place n t′ e given f g =
+      rw given (call-tallied t t′ (Call.report x at) (sym e ∙ given) (rw f at g))
 
   pub report-room : numberOf t (Call.report x at) ≡ 0 → isWithoutRoom t (x .source) ≡ false
   unfolding numberOf
@@ -167,19 +227,34 @@ free-below t source place free e f h room =
     let new : isMember t source ≡ false = le-ltb (placeIn t source) 64 (omega (arith, e, h)) in
     omega (arith, free-place t source new room, f)
 
-module _ (t : Table) (x : Record) (place : ℕ) (e : place ≡ placeIn t (x .source)) (members : Rows) where
+module _ (t : Table) (x : Record) (place : ℕ) (e : place ≡ placeIn t (x .source)) (members : Members) where
   pub filed-again :
-      place < 64 → members ≡ set (t .members) place x →
+      place < 64 → members ≡ set (t .members) place (record { «record» = x; tally = tallyAt t place }) →
       record { group = t .group; media = t .media; rate = t .rate; held = t .held; members = members } ≡ filed t x
   unfolding filed
   filed-again h f = rw (lt-ltb (placeIn t (x .source)) 64 (omega arith), f, e) refl
 
   pub filed-anew :
       (free word : ℕ) → 64 ≤ place → free ≡ lowestFree 64 (t .held) → word ≡ withPlace (t .held) free →
-      members ≡ set (t .members) free x →
+      members ≡ set (t .members) free (record { «record» = x; tally = 0 }) →
       record { group = t .group; media = t .media; rate = t .rate; held = word; members = members } ≡ filed t x
   unfolding filed
   filed-anew free word h f g k = rw (le-ltb (placeIn t (x .source)) 64 (omega arith), k, g, f) refl
+
+-- ---- a refusal tallied
+
+pub tallied-there :
+    (t : Table) (place tally : ℕ) → tally ≡ raised (tallyAt t place) →
+    withMember t place (record { «record» = getD (t .members) place nobody .«record»; tally = tally })
+    ≡ withRaised t place
+tallied-there t place tally e = rw e refl
+
+-- no record is altered
+pub records-tallied : (t : Table) (place : ℕ) → recordsIn (withRaised t place) ≡ recordsIn t
+records-tallied t place =
+    rows-set (t .members) place _
+    ∙ ap (λ (x : Record). set (recordsIn t) place x) (sym (row-at (t .members) place))
+    ∙ set-same (recordsIn t) place nowhere
 
 -- ---- an item
 

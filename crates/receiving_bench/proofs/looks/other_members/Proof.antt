@@ -5,19 +5,19 @@ use Rattle.receiving_bench.proofs.looks.other_members.Statement.{statem
 use Rattle.receiving_bench.proofs.looks.other_members.Tie as tie
 
 abbrev Inv-loop : tie.InvT-loop
-Inv-loop a b place₀ place = Unit
+Inv-loop a b but place₀ place = Unit
 
 abbrev μ-loop : tie.MeasureT-loop
-μ-loop a b place₀ place = 64 - place
+μ-loop a b but place₀ place = 64 - place
 
 loop-holds : tie.Need-loop-holds Inv-loop μ-loop
 loop-holds c = search needs
 
-record-line-requires : tie.Need-record-line-requires Inv-loop μ-loop
-record-line-requires c κs = search needs
+member-line-requires : tie.Need-member-line-requires Inv-loop μ-loop
+member-line-requires c κs = search needs
 
-record-line-requires-2 : tie.Need-record-line-requires-2 Inv-loop μ-loop
-record-line-requires-2 c κs = search needs
+member-line-requires-2 : tie.Need-member-line-requires-2 Inv-loop μ-loop
+member-line-requires-2 c κs = search needs
 
 same-line-requires : tie.Need-same-line-requires Inv-loop μ-loop
 same-line-requires c κs = search needs
@@ -44,8 +44,8 @@ other-members-spec =
     Inv-loop
     μ-loop
     loop-holds
-    record-line-requires
-    record-line-requires-2
+    member-line-requires
+    member-line-requires-2
     same-line-requires
     returns
     add-place

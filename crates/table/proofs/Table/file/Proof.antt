@@ -6,29 +6,35 @@ use Rattle.table.proofs.Laws.Cases.{free-below, filed-again, filed-anew
 use Rattle.table.proofs.Table.file.Statement.{statement}
 use Rattle.table.proofs.Table.file.Tie as tie
 
-mul-x : tie.Need-mul-x
-mul-x c = search needs
+mul-there : tie.Need-mul-there
+mul-there c = search needs
 
-element-set-from-x : tie.Need-element-set-from-x
-element-set-from-x c = search needs
+element-copy-out-there : tie.Need-element-copy-out-there
+element-copy-out-there c = search needs
+
+mul-t9 : tie.Need-mul-t9
+mul-t9 c = search needs
+
+element-set-from-next : tie.Need-element-set-from-next
+element-set-from-next c = search needs
 
 returns : tie.Need-returns
 returns c =
-    let start = c .before in
-    filed-again (start .args .self) (start .args .x) (start .args .place) (start .pre .0) _ (c .if1 .taken) refl
+    let start = c .before .before in
+    filed-again (start .args .self) (start .args .x) (start .args .place) (start .pre .0) _ (c .before .if1 .taken) refl
 
 with-place-requires : tie.Need-with-place-requires
 with-place-requires c κs = search needs
 
-mul-x-2 : tie.Need-mul-x-2
-mul-x-2 c =
+mul-t17 : tie.Need-mul-t17
+mul-t17 c =
     let start = c .before .before in
     let below : start .args .free < 64 =
     free-below (start .args .self) _ _ _ (start .pre .0) (start .pre .1) (c .before .if1 .left) (start .pre .2) in
     search needs
 
-element-set-from-x-2 : tie.Need-element-set-from-x-2
-element-set-from-x-2 c =
+element-set-from-next-2 : tie.Need-element-set-from-next-2
+element-set-from-next-2 c =
     let start = c .before .before in
     free-below (start .args .self) _ _ _ (start .pre .0) (start .pre .1) (c .before .if1 .left) (start .pre .2)
 
@@ -45,10 +51,12 @@ pub file-spec : {M : Type 1} → statement M
 file-spec =
     tie.close
     (tie.spec
-    mul-x
-    element-set-from-x
+    mul-there
+    element-copy-out-there
+    mul-t9
+    element-set-from-next
     returns
     with-place-requires
-    mul-x-2
-    element-set-from-x-2
+    mul-t17
+    element-set-from-next-2
     returns-2)

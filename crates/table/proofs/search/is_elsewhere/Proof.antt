@@ -3,6 +3,7 @@ use mathlib.Core.Bool.{not}
 use mathlib.Core.Path.{refl, ap}
 use borrow.Author.Needs.{needs}
 use borrow.Author.Tests.{lt-ltb, le-ltb}
+use Rattle.choosing.proofs.Laws.Marked.{row-at}
 use Rattle.table.proofs.search.is_elsewhere.Statement.{statement}
 use Rattle.table.proofs.search.is_elsewhere.Tie as tie
 
@@ -19,7 +20,9 @@ same-origin-requires : tie.Need-same-origin-requires
 same-origin-requires c κs = search needs
 
 returns-2 : tie.Need-returns-2
-returns-2 c = rw (lt-ltb _ 64 (c .before .before .if1 .left)) (ap not (c .same-origin .ensures))
+returns-2 c =
+    let args = c .before .before .before .args in
+    rw (lt-ltb _ 64 (c .before .before .if1 .left), row-at (args .t1) (args .place)) (ap not (c .same-origin .ensures))
 
 pub is-elsewhere-spec : {M : Type 1} → statement M
 is-elsewhere-spec =

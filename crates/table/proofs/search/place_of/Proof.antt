@@ -5,6 +5,9 @@ use lib.ListN.{drop}
 use native.Mathlib.Numerals.{add-one}
 use native.Mathlib.Omega.{arith}
 use borrow.Author.Needs.{needs}
+use Rattle.register.specs.Tallies.{rowsOf}
+use Rattle.register.proofs.Tallies.{length-rows}
+use Rattle.choosing.proofs.Laws.Marked.{row-at}
 use Rattle.table.specs.Members.{placeOf}
 use Rattle.table.proofs.Laws.Search.{place-here, place-beyond, place-end}
 use Rattle.table.proofs.search.place_of.Statement.{statement}
@@ -12,7 +15,7 @@ use Rattle.table.proofs.search.place_of.Tie as tie
 
 abbrev Inv-loop : tie.InvT-loop
 Inv-loop held source members word₀ i₀ word i =
-    (i ≤ 64) × (i + placeOf source word (drop i members) ≡ placeOf source held members)
+    (i ≤ 64) × (i + placeOf source word (drop i (rowsOf members)) ≡ placeOf source held (rowsOf members))
 
 abbrev μ-loop : tie.MeasureT-loop
 μ-loop held source members word₀ i₀ word i = 64 - i
@@ -35,8 +38,9 @@ returns c =
     let start = around .before in
     let loop = around .loop in
     let e : _ =
-    place-here (start .args .source) (loop .word) (start .args .t2) (loop .i) (omega (arith, start .good))
-    (sym (c .before .is-held-by .ensures) ∙ c .if1 .taken) in
+    place-here (start .args .source) (loop .word) (rowsOf (start .args .t2)) (loop .i)
+    (omega (arith, start .good, length-rows (start .args .t2)))
+    (rw (row-at (start .args .t2) (loop .i)) (sym (c .before .is-held-by .ensures) ∙ c .if1 .taken)) in
     omega (arith, e, loop .inv .1)
 
 add-i : tie.Need-add-i Inv-loop μ-loop
@@ -51,17 +55,21 @@ loop-again c =
     let start = around .before in
     let loop = around .loop in
     let e : _ =
-    place-beyond (start .args .source) (loop .word) (start .args .t2) (loop .i) (omega (arith, start .good))
-    (sym (c .before .is-held-by .ensures) ∙ c .if1 .left) in
+    place-beyond (start .args .source) (loop .word) (rowsOf (start .args .t2)) (loop .i)
+    (omega (arith, start .good, length-rows (start .args .t2)))
+    (rw (row-at (start .args .t2) (loop .i)) (sym (c .before .is-held-by .ensures) ∙ c .if1 .left)) in
     let next : _ =
-    ap (λ (k : ℕ). placeOf (start .args .source) (loop .word / 2) (drop k (start .args .t2))) (add-one (loop .i)) in
+    ap (λ (k : ℕ). placeOf (start .args .source) (loop .word / 2) (drop k (rowsOf (start .args .t2))))
+    (add-one (loop .i)) in
     (omega arith, omega (arith, e, next, loop .inv .1))
 
 returns-2 : tie.Need-returns-2 Inv-loop μ-loop
 returns-2 c =
     let start = c .before .before in
     let loop = c .before .loop in
-    let e : _ = place-end (start .args .source) (loop .word) (start .args .t2) (loop .i) (omega (arith, start .good)) in
+    let e : _ =
+    place-end (start .args .source) (loop .word) (rowsOf (start .args .t2)) (loop .i)
+    (omega (arith, start .good, length-rows (start .args .t2))) in
     omega (arith, e, loop .inv .1)
 
 pub place-of-spec : {M : Type 1} → statement M

@@ -6,6 +6,9 @@ use std::time::Instant;
 /// Among so many reports, one has to present with a step of 0.
 const STEP_ZERO_SHARE: u64 = 10;
 
+/// The greatest tally has to be at least this.
+const LEAST_TALLY: u32 = 100;
+
 /// A name, and how often it was met.
 pub type Line = (String, u64);
 
@@ -60,6 +63,18 @@ pub fn settle(start: Instant, lines: impl IntoIterator<Item = Line>, least: u64)
 pub fn ask_step_zero(step_zero: u64, reports: u64) {
     if step_zero * STEP_ZERO_SHARE < reports {
         println!("FAILED: reports of step 0: {step_zero} among {reports}");
+        exit(1);
+    }
+}
+
+pub fn print_greatest_tally(greatest: u32) {
+    print_lines(&lines([("greatest tally", greatest.into())]));
+}
+
+/// The run fails where no member had a great tally.
+pub fn ask_greatest_tally(greatest: u32) {
+    if greatest < LEAST_TALLY {
+        println!("FAILED: the greatest tally is {greatest}, below {LEAST_TALLY}");
         exit(1);
     }
 }

@@ -1,0 +1,214 @@
+//! Histories and courses around the limit of the tally, which calls alone do not
+//! reach: one member's tally is written into a table that public calls made.
+
+use crate::arrivals::{Arrival, Course, Event};
+use crate::call_history::TALLY_LIMIT;
+use crate::encoder::Message;
+use crate::histories::{History, Step};
+use crate::members::{Call, Opening, Origin, Reading, Record, ReportFields};
+
+const OPENING: Opening = Opening {
+    group: 42,
+    media: 7,
+    rate: 90_000,
+};
+
+/// The tallies that are written: also before a carry into another byte or the sign.
+pub const TALLIES: [u32; 8] = [
+    0,
+    1,
+    u8::MAX as u32,
+    u16::MAX as u32,
+    i32::MAX as u32,
+    TALLY_LIMIT - 2,
+    TALLY_LIMIT - 1,
+    TALLY_LIMIT,
+];
+
+/// Members beside the one in question, with their tallies: before it, and behind it.
+const OTHERS: [(u32, u32); 2] = [(10, TALLY_LIMIT - 1), (30, 3)];
+
+/// The number of the member in question.
+const NUMBER: u32 = 20;
+
+/// The unit that holds the number at first, and its twin.
+const OWN: u16 = 5000;
+const TWIN: u16 = 6000;
+
+/// When the members join, and how long after a sweep takes them all out.
+const START: u32 = 1000;
+const STALE: u32 = 40;
+
+/// How many acts follow on each other.
+const ACTS: u32 = 3;
+
+/// What is done with the member in question, or beside it.
+#[derive(Clone, Copy, Debug)]
+enum Act {
+    Report(u16),
+    Farewell(u16),
+    /// Refused with 13, whoever sends it.
+    OtherGroup(u16),
+    /// Refused with 15, 16 and 17, where the number is this unit's or free.
+    Old,
+    OldMedia,
+    Late,
+    /// A farewell of the last member's twin.
+    TwinOfAnother,
+    Sweep,
+    SweepAllOut,
+}
+
+const ALL: [Act; 12] = [
+    Act::Report(OWN),
+    Act::Report(TWIN),
+    Act::Farewell(OWN),
+    Act::Farewell(TWIN),
+    Act::OtherGroup(OWN),
+    Act::OtherGroup(TWIN),
+    Act::Old,
+    Act::OldMedia,
+    Act::Late,
+    Act::TwinOfAnother,
+    Act::Sweep,
+    Act::SweepAllOut,
+];
+
+/// The clocks after so many seconds.
+fn reading(seconds: u32) -> Reading {
+    Reading {
+        ntp: u64::from(seconds) << 32,
+        rtp: seconds * OPENING.rate,
+    }
+}
+
+fn origin(port: u16) -> Origin {
+    let address = [7; 16];
+    Origin { address, port }
+}
+
+/// Received then, and presented half a second later.
+fn record(source: u32, port: u16, seconds: u32) -> Record {
+    let received = reading(seconds);
+    Record {
+        source,
+        origin: origin(port),
+        report: ReportFields {
+            received: received.ntp,
+            group: OPENING.group,
+            media: OPENING.media,
+            rtp: received.rtp,
+            presented: (seconds << 16) + (1 << 15),
+            payload_type: 33,
+            p: 1,
+        },
+    }
+}
+
+/// The calls that lead to the table: the member in question is in the middle.
+fn joinings() -> [Call; 3] {
+    let [(before, _), (behind, _)] = OTHERS;
+    [before, NUMBER, behind]
+        .map(|source| Call::Report(record(source, OWN, START - 1), reading(START)))
+}
+
+/// The tallies that are written then, by number.
+fn written(tally: u32) -> [(u32, u32); 3] {
+    let [before, behind] = OTHERS;
+    [before, (NUMBER, tally), behind]
+}
+
+impl Act {
+    /// The call at the clock, which the last act may move.
+    fn call(self, clock: &mut u32) -> Call {
+        if let Act::SweepAllOut = self {
+            *clock += STALE;
+        }
+        let now = reading(*clock);
+        let mut told = record(NUMBER, OWN, *clock - 1);
+        match self {
+            Act::Report(port) => told.origin.port = port,
+            Act::OtherGroup(port) => {
+                told.origin.port = port;
+                told.report.group += 1;
+            }
+            Act::Old => told.report.received = reading(*clock - STALE).ntp,
+            Act::OldMedia => told.report.rtp = now.rtp + 1,
+            Act::Late => told.report.presented += STALE << 16,
+            Act::Farewell(port) => return Call::Farewell(NUMBER, origin(port)),
+            Act::TwinOfAnother => return Call::Farewell(OTHERS[1].0, origin(TWIN)),
+            Act::Sweep | Act::SweepAllOut => return Call::Sweep(now),
+        }
+        Call::Report(told, now)
+    }
+}
+
+/// Every three acts in turn, from a tally on. All members are compared after each
+/// of them, so fewer acts are not histories of their own.
+pub fn histories(tally: u32) -> impl Iterator<Item = History> {
+    let orders = 0..ALL.len().pow(ACTS);
+    let act = |order: usize, place: u32| ALL[order / ALL.len().pow(place) % ALL.len()];
+    let acts = move |order: usize| (0..ACTS).map(move |place| act(order, place));
+    orders.map(move |order| history(tally, acts(order)))
+}
+
+fn history(tally: u32, acts: impl Iterator<Item = Act>) -> History {
+    let mut clock = START;
+    let mut steps: Vec<Step> = joinings().map(Step::Call).into();
+    steps.extend(written(tally).map(|(source, tally)| Step::SetTally(source, tally)));
+    steps.extend(acts.flat_map(|act| [Step::Call(act.call(&mut clock)), Step::Members]));
+    steps.push(Step::Choose(reading(clock)));
+    History {
+        opening: OPENING,
+        steps,
+    }
+}
+
+/// Datagrams from the twin and from the holder, which leaves and comes back, from a
+/// tally on.
+pub fn course(tally: u32) -> Course {
+    let arrivals = [
+        (TWIN, "RF"),
+        (OWN, "R"),
+        (TWIN, "FFRR"),
+        (OWN, "FR"),
+        (TWIN, "RRF"),
+        (OWN, "F"),
+        (TWIN, "R"),
+        (OWN, "RFR"),
+    ];
+    let mut events: Vec<Event> = joinings().map(Event::Call).into();
+    events.extend(written(tally).map(|(source, tally)| Event::SetTally(source, tally)));
+    events.extend(arrivals.map(|(port, items)| Event::Arrival(arrival(port, items))));
+    Course {
+        opening: OPENING,
+        events,
+    }
+}
+
+/// An RR, then a report for each R and a farewell for each F.
+fn arrival(port: u16, items: &str) -> Arrival {
+    let words = |words: [u32; 2]| words.map(u32::to_be_bytes).concat();
+    let mut datagram = words([0x80C9_0001, NUMBER]);
+    for item in items.bytes() {
+        datagram.extend(match item {
+            b'R' => written_report(&record(NUMBER, port, START - 1)),
+            _ => words([0x81CB_0001, NUMBER]),
+        });
+    }
+    Arrival {
+        datagram,
+        reduced_size: false,
+        origin: origin(port),
+        reading: reading(START),
+        length: items.len(),
+        choice: reading(START),
+    }
+}
+
+/// The report as the independent encoder writes it.
+fn written_report(record: &Record) -> Vec<u8> {
+    let message = Message::from(record);
+    let written = message.encode_with(message.size(), None);
+    written.expect("its fields are in range")
+}
