@@ -5,7 +5,7 @@ use Rattle.times.specs.Times.{differenceMod, step, unwrapped, expanded, delay}
 use Rattle.origin.specs.Origins.{sameBytes, sameOrigin}
 use Rattle.places.specs.Places.{isHeld, heldIn, lowestFree, withPlace, withoutPlace}
 use Rattle.register.specs.Register.{reportChecks, farewellChecks}
-use Rattle.register.specs.Tallies.{rowsOf}
+use Rattle.register.specs.Tallies.{recordsOf}
 use Rattle.register.specs.Choosing.{lateness}
 use Rattle.choosing.specs.Marked.{markedAt, filterWord}
 use Rattle.choosing.specs.Latest.{latest}
@@ -19,7 +19,7 @@ use Rattle.cases.specs.Cases.{papers, AllHold}
 
 pub papers-hold : AllHold papers
 unfolding AllHold papers differenceMod step unwrapped expanded delay sameBytes sameOrigin trailingZeros isHeld heldIn
-    lowestFree withPlace withoutPlace reportChecks farewellChecks rowsOf lateness latest emptyTable markedAt placeAt
+    lowestFree withPlace withoutPlace reportChecks farewellChecks recordsOf lateness latest emptyTable markedAt placeAt
     placeOf filterWord opened numberOf filed refusedBy answered latestTarget choiceAmong choiceOf answersFrom tableFrom
     reportIsUnwritable
 papers-hold = (

@@ -20,7 +20,7 @@ ghost use Rattle.places.specs.Places.{isFree, heldIn, bit};
 ghost use Rattle.times.specs.Times.{expanded};
 ghost use Rattle.register.specs.Register.{presents, freshAt};
 ghost use Rattle.register.specs.Choosing.{delayOf, targetOf};
-ghost use Rattle.register.specs.Tallies.{rowsOf};
+ghost use Rattle.register.specs.Tallies.{recordsOf};
 ghost use Rattle.choosing.specs.Marked.{markedAt};
 ghost use Rattle.choosing.specs.Choose.{atRate, marksAt, countedIn, latestTarget, choiceAmong};
 ghost use Rattle.choosing.specs.Lateness.{biased, biasedLate, inTwo, candidateAt, staysLatest, latestNext};
@@ -78,7 +78,7 @@ fn with_bit(word: u64, i: usize, yes: bool) -> u64
 
 // Each place in turn: the word's lowest bit marks it, and the word is halved.
 pub fn marks_at(held: u64, members: [Member; 64], rate: u32, at: Reading) -> Marks
-    ensures { λ r. ⌜ r ≡ marksAt rate at held (rowsOf members) ⌝ }
+    ensures { λ r. ⌜ r ≡ marksAt rate at held (recordsOf members) ⌝ }
 {
     let mut fresh: u64 = 0;
     let mut presenting: u64 = 0;
@@ -194,7 +194,7 @@ fn latest_next(
 
 // The place of the latest of the members that a word marks, or 64 where it marks none.
 fn latest_place(word: u64, members: [Member; 64], rate: u32, at: Reading) -> usize
-    ensures { λ r. ⌜ IsLatest rate at word (rowsOf members) r ⌝ }
+    ensures { λ r. ⌜ IsLatest rate at word (recordsOf members) r ⌝ }
 {
     let mut latest = Candidate {
         place: 64,
@@ -239,7 +239,7 @@ fn target_of(row: Record, counted: u32) -> Choice
 
 // The latest of the members that a word marks, all of them counted, or 20 where it marks none.
 fn choice_in(word: u64, members: [Member; 64], rate: u32, at: Reading) -> Choice
-    ensures { λ r. ⌜ r ≡ latestTarget (biasedLate rate at) (heldIn 64 word) (markedAt word (rowsOf members)) ⌝ }
+    ensures { λ r. ⌜ r ≡ latestTarget (biasedLate rate at) (heldIn 64 word) (markedAt word (recordsOf members)) ⌝ }
 {
     let place = latest_place(word, members, rate, at);
     if 64 <= place {
@@ -261,7 +261,7 @@ fn counted_word(marks: Marks) -> u64
 
 // The target among the members at the places held, or 20.
 pub fn choice_at(held: u64, members: [Member; 64], rate: u32, at: Reading) -> Choice
-    ensures { λ r. ⌜ r ≡ choiceAmong rate at held (rowsOf members) ⌝ }
+    ensures { λ r. ⌜ r ≡ choiceAmong rate at held (recordsOf members) ⌝ }
 {
     let marks = marks_at(held, members, rate, at);
     choice_in(counted_word(marks), members, rate, at)

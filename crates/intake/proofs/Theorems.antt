@@ -15,7 +15,7 @@ use Rattle.origin.specs.declared.Origin.{Origin}
 use Rattle.register.specs.declared.Reading.{Reading}
 use Rattle.datagram.specs.declared.Count.{Count}
 use Rattle.register.specs.Register.{Opening, Call, answer, answers, afterAll}
-use Rattle.register.specs.Tallies.{Members, rowsOf, membersAfterAll}
+use Rattle.register.specs.Tallies.{Members, recordsOf, membersAfterAll}
 use Rattle.register.specs.Promise.{AllInRange}
 use Rattle.register.proofs.Tallies.{rows-after-all}
 use Rattle.register.proofs.History.{length-answers, answers-append, ranges-append}
@@ -101,14 +101,14 @@ answers-behind o calls more =
 
 -- Of every datagram of bytes all calls are made, and answered as the register answers them, or none is.
 pub datagram-reached : EveryDatagram
-unfolding datagramAnswered answersAfter rowsOf
+unfolding datagramAnswered answersAfter recordsOf
 datagram-reached o calls t ms here reduced d h origin at lent =
     record {
       made = λ check room.
           let more = datagramCalls d origin at in
           let ranges : AllInRange more = datagram-in-range reduced d origin at h check in
           let enough : ltb (length lent) (length more) ≡ false = le-ltb (length lent) (length more) room in
-          let behind : drop (length calls) (answers o [] (calls ++ more)) ≡ answers o (rowsOf ms) more =
+          let behind : drop (length calls) (answers o [] (calls ++ more)) ≡ answers o (recordsOf ms) more =
           rw (here .members-are, rows-after-all o [] calls) (answers-behind o calls more) in
           record {
             reached = rw (check, enough) (reached-further o calls t ms more here ranges);
@@ -140,7 +140,7 @@ module _ (o : Opening) (calls : List Call) (t : Table) (ms : Members) (here : Re
   call-made : (call : Call) → AllInRange (call ∷ []) → OneMade o calls t ms call (callTaken t call)
   unfolding tableFrom answersFrom membersAfterAll answers
   call-made call ranges =
-      let same : answered t call .number ∷ [] ≡ answer o (rowsOf ms) call ∷ [] =
+      let same : answered t call .number ∷ [] ≡ answer o (recordsOf ms) call ∷ [] =
       reached-answers o calls t ms (call ∷ []) here in
       record { reached = reached-further o calls t ms (call ∷ []) here ranges; outcome = cc }
 

@@ -19,7 +19,7 @@ use Rattle.datagram.specs.Datagram.{datagramCheck, datagramItems}
 use Rattle.rtcp.specs.Answers.{itemOf}
 use Rattle.register.specs.declared.Reading.{Reading}
 use Rattle.register.specs.Register.{Opening, Call, answer, answers}
-use Rattle.register.specs.Tallies.{Members, rowsOf, membersAfter, membersAfterAll}
+use Rattle.register.specs.Tallies.{Members, recordsOf, membersAfter, membersAfterAll}
 use Rattle.table.specs.declared.Outcome.{Outcome}
 use Rattle.table.specs.declared.Table.{Table}
 use Rattle.table.specs.declared.Taken.{Taken}
@@ -92,7 +92,7 @@ module _ (o : Opening) (calls : List Call) (t : Table) (members : Members) where
     -- the table is reached by the calls before and this one
     pub reached : Reached o (calls ++ call ∷ []) (result .table) (membersAfter o members call)
     -- the outcome is the register's answer to it
-    pub outcome : result .outcome ≡ Outcome.Number (answer o (rowsOf members) call)
+    pub outcome : result .outcome ≡ Outcome.Number (answer o (recordsOf members) call)
 
   -- what demand 3 says of the item that reading gives at an index: a report or a farewell is a call, and settings leave
   -- the table as it was

@@ -10,7 +10,7 @@ use Rattle.register.specs.declared.Record.{Record}
 use Rattle.register.specs.declared.Member.{Member}
 use Rattle.register.specs.declared.Reading.{Reading}
 use Rattle.register.specs.Register.{Opening, Rows, Call, presents, isOtherStream, reportChecks, answers, afterAll}
-use Rattle.register.specs.Tallies.{Members, rowsOf, tallyIn, membersAfterAll}
+use Rattle.register.specs.Tallies.{Members, recordsOf, tallyIn, membersAfterAll}
 use Rattle.register.specs.Promise.{InRange, AllInRange}
 use Rattle.register.specs.Letter.{got, History, history, madeIn, Stands, linesOf, NoneOf, MeansBehind, Means}
 use Rattle.register.proofs.Tallies.{rows-after-all, kept-none, kept-after-all}
@@ -80,15 +80,15 @@ accepted-sound o h x at means range =
     }
 
 pub sound-rows : (o : Opening) (calls : List Call) → AllInRange calls → Sound o (afterAll o [] calls)
-unfolding rowsOf
+unfolding recordsOf
 sound-rows o calls ranges row member =
     let h : History = history calls (answers o [] calls) in
     let made : madeIn h ≡ calls = made-of o [] calls in
     let ms : Members = membersAfterAll o [] calls in
     let m : Member = record { «record» = row; tally = tallyIn ms (row .source) } in
-    let there : List·Memᴰ row (rowsOf ms) = rw (rows-after-all o [] calls) member in
+    let there : List·Memᴰ row (recordsOf ms) = rw (rows-after-all o [] calls) member in
     let is : IsMember o h m = rw made (kept-after-all o [] calls kept-none m .1 (there, refl)) in
-    let s : Stands o h row = letter o calls .members h [] (sym (append-nil h)) m .0 is .0 in
+    let s : Stands o h row = letter o calls .members h [] (sym (append-nil h)) row .0 (m .tally, is) in
     let means : _ = letter o calls .refusals (s .before) (Call.report row (s .at)) 0 (s .behind) (s .reported) in
     accepted-sound o (s .before) row (s .at) means
     (range-in h (s .before) (Call.report row (s .at)) 0 (s .behind) (rw made ranges) (s .reported))

@@ -13,43 +13,43 @@ use borrow.Author.Tests.{eqb-true, eq-eqb, ltb-false, le-ltb}
 use Rattle.register.specs.declared.Record.{Record}
 use Rattle.register.specs.declared.Member.{Member}
 use Rattle.register.specs.Register.{Opening, Rows, Call, any, hasNumber, after, afterAll}
-use Rattle.register.specs.Tallies.{Members, rowsOf, tallyLimit, raised, tallyIn, withTallies}
+use Rattle.register.specs.Tallies.{Members, recordsOf, tallyLimit, raised, tallyIn, withTallies}
 use Rattle.register.specs.Tallies.{tallyAfter, membersAfter, membersAfterAll}
 use Rattle.register.proofs.Rows.{clash, or-false}
 use Rattle.register.proofs.Letter.Lines.{tells-any}
 
 -- ---- rows
 
-rows-with : (tally : ℕ → ℕ) (rows : Rows) → rowsOf (withTallies tally rows) ≡ rows
-unfolding rowsOf withTallies
+rows-with : (tally : ℕ → ℕ) (rows : Rows) → recordsOf (withTallies tally rows) ≡ rows
+unfolding recordsOf withTallies
 rows-with tally [] = refl
 rows-with tally (row ∷ rows) = ap (λ (rest : Rows). row ∷ rest) (rows-with tally rows)
 
-pub rows-after : (o : Opening) (ms : Members) (call : Call) → rowsOf (membersAfter o ms call) ≡ after o (rowsOf ms) call
+pub rows-after : (o : Opening) (ms : Members) (call : Call) → recordsOf (membersAfter o ms call) ≡ after o (recordsOf ms) call
 unfolding membersAfter
-rows-after o ms call = rows-with (tallyAfter o ms call) (after o (rowsOf ms) call)
+rows-after o ms call = rows-with (tallyAfter o ms call) (after o (recordsOf ms) call)
 
 pub rows-after-all :
     (o : Opening) (ms : Members) (calls : List Call) →
-    rowsOf (membersAfterAll o ms calls) ≡ afterAll o (rowsOf ms) calls
+    recordsOf (membersAfterAll o ms calls) ≡ afterAll o (recordsOf ms) calls
 unfolding membersAfterAll afterAll
 rows-after-all o ms [] = refl
 rows-after-all o ms (call ∷ calls) =
     rows-after-all o (membersAfter o ms call) calls ∙ ap (λ (rows : Rows). afterAll o rows calls) (rows-after o ms call)
 
-pub length-rows : (ms : Members) → length (rowsOf ms) ≡ length ms
-unfolding rowsOf
+pub length-rows : (ms : Members) → length (recordsOf ms) ≡ length ms
+unfolding recordsOf
 length-rows [] = refl
 length-rows (m ∷ ms) = ap suc (length-rows ms)
 
-pub rows-set : (ms : Members) (place : ℕ) (m : Member) → rowsOf (set ms place m) ≡ set (rowsOf ms) place (m .«record»)
-unfolding rowsOf
+pub rows-set : (ms : Members) (place : ℕ) (m : Member) → recordsOf (set ms place m) ≡ set (recordsOf ms) place (m .«record»)
+unfolding recordsOf
 rows-set [] place m = refl
 rows-set (first ∷ ms) zero m = refl
 rows-set (first ∷ ms) (suc place) m = ap (λ (rows : Rows). first .«record» ∷ rows) (rows-set ms place m)
 
-pub record-member : (m : Member) (ms : Members) → List·Memᴰ m ms → List·Memᴰ (m .«record») (rowsOf ms)
-unfolding rowsOf
+pub record-member : (m : Member) (ms : Members) → List·Memᴰ m ms → List·Memᴰ (m .«record») (recordsOf ms)
+unfolding recordsOf
 record-member m (first ∷ ms) (List·Memᴰ·head q) = List·Memᴰ·head (ap (λ (x : Member). x .«record») q)
 record-member m (first ∷ ms) (List·Memᴰ·tail z) = List·Memᴰ·tail (record-member m ms z)
 
@@ -76,11 +76,11 @@ raised-limit n low high = rw (le-ltb (n + 1) tallyLimit (omega (arith, low))) (o
 -- ---- a number's tally
 
 -- 0 where no row has it
-pub tally-none : (ms : Members) (source : ℕ) → any (hasNumber source) (rowsOf ms) ≡ false → tallyIn ms source ≡ 0
-unfolding tallyIn rowsOf any
+pub tally-none : (ms : Members) (source : ℕ) → any (hasNumber source) (recordsOf ms) ≡ false → tallyIn ms source ≡ 0
+unfolding tallyIn recordsOf any
 tally-none [] source e = refl
 tally-none (m ∷ ms) source e =
-    let both : _ = or-false (hasNumber source (m .«record»)) (any (hasNumber source) (rowsOf ms)) e in
+    let both : _ = or-false (hasNumber source (m .«record»)) (any (hasNumber source) (recordsOf ms)) e in
     rw (both .0) (tally-none ms source (both .1))
 
 -- the one that is given to its row
@@ -104,7 +104,7 @@ tally-with tally (row ∷ rows) source e = go (hasNumber source row) refl e (tal
 abbrev pub Kept : Members → Type 0
 Kept ms =
     (m : Member) →
-    List·Memᴰ m ms ↔ (List·Memᴰ (m .«record») (rowsOf ms) × (m .tally ≡ tallyIn ms (m .«record» .source)))
+    List·Memᴰ m ms ↔ (List·Memᴰ (m .«record») (recordsOf ms) × (m .tally ≡ tallyIn ms (m .«record» .source)))
 
 -- a member of these rows, with the tally that its number is given
 abbrev Among : (ℕ → ℕ) → Member → Rows → Type 0
@@ -159,8 +159,8 @@ kept-with tally rows m = rw (rows-with tally rows) (there, back)
 -- members with the tallies that their numbers are given
 with-rows :
     (tally : ℕ → ℕ) (ms : Members) → ((m : Member) → List·Memᴰ m ms → m .tally ≡ tally (m .«record» .source)) →
-    ms ≡ withTallies tally (rowsOf ms)
-unfolding rowsOf withTallies
+    ms ≡ withTallies tally (recordsOf ms)
+unfolding recordsOf withTallies
 with-rows tally [] each = refl
 with-rows tally (m ∷ ms) each =
     ap₂ _∷_
@@ -181,23 +181,23 @@ with-permuted tally (List·Permᴰ·trans d e) = List·Permᴰ·trans (with-perm
 
 -- members whose rows are the same, and whose tallies are those of kept ones, are the same
 pub members-permuted :
-    (ms kept : Members) → Kept kept → List·Permᴰ (rowsOf ms) (rowsOf kept) →
+    (ms kept : Members) → Kept kept → List·Permᴰ (recordsOf ms) (recordsOf kept) →
     ((m : Member) → List·Memᴰ m ms → m .tally ≡ tallyIn kept (m .«record» .source)) → List·Permᴰ ms kept
 members-permuted ms kept own same each =
-    let those : ms ≡ withTallies (tallyIn kept) (rowsOf ms) = with-rows (tallyIn kept) ms each in
-    let these : kept ≡ withTallies (tallyIn kept) (rowsOf kept) =
+    let those : ms ≡ withTallies (tallyIn kept) (recordsOf ms) = with-rows (tallyIn kept) ms each in
+    let these : kept ≡ withTallies (tallyIn kept) (recordsOf kept) =
     with-rows (tallyIn kept) kept (λ m z. own m .0 z .1) in
     subst (λ (xs : Members). List·Permᴰ xs kept) (sym those)
-    (subst (λ (ys : Members). List·Permᴰ (withTallies (tallyIn kept) (rowsOf ms)) ys) (sym these)
+    (subst (λ (ys : Members). List·Permᴰ (withTallies (tallyIn kept) (recordsOf ms)) ys) (sym these)
     (with-permuted (tallyIn kept) same))
 
 pub kept-none : Kept []
-unfolding rowsOf
+unfolding recordsOf
 kept-none m = (λ z. absurd (List·Memᴰ·not-nil z), λ both. absurd (List·Memᴰ·not-nil (both .0)))
 
 pub kept-after : (o : Opening) (ms : Members) (call : Call) → Kept (membersAfter o ms call)
 unfolding membersAfter
-kept-after o ms call = kept-with (tallyAfter o ms call) (after o (rowsOf ms) call)
+kept-after o ms call = kept-with (tallyAfter o ms call) (after o (recordsOf ms) call)
 
 pub kept-after-all : (o : Opening) (ms : Members) (calls : List Call) → Kept ms → Kept (membersAfterAll o ms calls)
 unfolding membersAfterAll
@@ -207,7 +207,7 @@ kept-after-all o ms (call ∷ calls) kept = kept-after-all o (membersAfter o ms 
 -- the tally that a call leaves to a row's number
 pub tally-after :
     (o : Opening) (ms : Members) (call : Call) (source : ℕ) →
-    any (hasNumber source) (after o (rowsOf ms) call) ≡ true →
+    any (hasNumber source) (after o (recordsOf ms) call) ≡ true →
     tallyIn (membersAfter o ms call) source ≡ tallyAfter o ms call source
 unfolding membersAfter
-tally-after o ms call source e = tally-with (tallyAfter o ms call) (after o (rowsOf ms) call) source e
+tally-after o ms call source e = tally-with (tallyAfter o ms call) (after o (recordsOf ms) call) source e

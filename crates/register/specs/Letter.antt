@@ -1,9 +1,9 @@
 -- What demand 3 says of members and twins, request E5 of their tallies, and what each answer means, in the words of the
 -- letter and of the papers' table of refusal numbers, over what the customer sees: the calls of a list, the answer that
 -- each got, and the members shown. Nothing here is kept from call to call: who is a member, and its tally, follow from
--- the list.
+-- the list. `twins` alone compares what is shown before and after one call.
 use Prim.Native.Nat.{ℕ, _+_, _*_, _^_, _<_}
-use mathlib.Core.Bool.{Bool, cond, _&&_}
+use mathlib.Core.Bool.{Bool, false, cond, _&&_}
 use mathlib.Core.List.{List, [], _∷_, _++_, List·Memᴰ}
 use mathlib.Core.Logic.{_⊎_, _↔_}
 use mathlib.Core.Path.{_≡_}
@@ -17,7 +17,6 @@ use Rattle.register.specs.declared.Record.{Record}
 use Rattle.register.specs.declared.Member.{Member}
 use Rattle.register.specs.declared.Reading.{Reading}
 use Rattle.register.specs.Register.{Opening, Rows, Call, filter}
-use Rattle.register.specs.Tallies.{isUnder}
 use Rattle.register.specs.Promise.{Unique}
 
 -- ---- a list of calls with their answers
@@ -119,34 +118,37 @@ NoRoom o h source = NotHeld o h source × ((rows : Rows) × AreAll o h rows × (
 -- ---- tallies (document 02, E5)
 
 -- a source number joins: a report under it is accepted, and by the calls before no member had it
-abbrev pub Joins : Opening → History → Event → ℕ → Type 0
-Joins o before (got (Call.report x at) number) source = (x .source ≡ source) × (number ≡ 0) × NotHeld o before source
-Joins o before (got (Call.farewell left origin) number) source = ⊥
-Joins o before (got (Call.sweep at) number) source = ⊥
+abbrev pub Joins : Opening → History → ℕ → Event → Type 0
+Joins o before source (got (Call.report x at) number) = (x .source ≡ source) × (number ≡ 0) × NotHeld o before source
+Joins o before source (got (Call.farewell other origin) number) = ⊥
+Joins o before source (got (Call.sweep at) number) = ⊥
 
--- what a history has behind the last joining of a number
+-- what a history has behind the last joining of a number: by no call in it does the number join again
 pub record SinceJoined (o : Opening) (h : History) (source : ℕ) (behind : History) : Type 0 where
   pub before : History
   pub joining : Event
   pub whole : h ≡ before ++ (joining ∷ behind)
-  pub joins : Joins o before joining source
+  pub joins : Joins o before source joining
   pub last :
       (between : History) (e : Event) (later : History) → behind ≡ between ++ (e ∷ later) →
-      Joins o (before ++ (joining ∷ between)) e source → ⊥
+      Joins o (before ++ (joining ∷ between)) source e → ⊥
 
 -- a number was refused with 14, by report or farewell
-abbrev pub isTwinRefused : ℕ → Event → Bool
-isTwinRefused source (got call number) = eqb number otherOrigin && isUnder source call
+abbrev pub gotOtherOrigin : ℕ → Event → Bool
+gotOtherOrigin source (got (Call.report x at) number) = eqb number otherOrigin && eqb (x .source) source
+gotOtherOrigin source (got (Call.farewell other origin) number) = eqb number otherOrigin && eqb other source
+gotOtherOrigin source (got (Call.sweep at) number) = false
 
--- how many times that was, in a history
+-- how many times a number was refused with 14 in a history
 abbrev pub timesRefused : ℕ → History → ℕ
-timesRefused source h = length (filter (isTwinRefused source) h)
+timesRefused source h = length (filter (gotOtherOrigin source) h)
 
 -- the tally stops at 4,294,967,295
 abbrev pub cut : ℕ → ℕ
 cut times = cond (ltb times 4294967295) times 4294967295
 
--- a number's tally: how many times it was refused with 14 since it last joined
+-- the tally of a member's number: how many times it was refused with 14 since it last joined, cut at that limit. Of a
+-- number that left, the history still tells it, but no member is shown with it (`members`).
 abbrev pub TallyIs : Opening → History → (source tally : ℕ) → Type 0
 TallyIs o h source tally =
     (behind : History) × SinceJoined o h source behind × (tally ≡ cut (timesRefused source behind))
@@ -208,7 +210,8 @@ TwinGets o (Call.report y at) number =
 TwinGets o (Call.farewell source origin) number = number ≡ otherOrigin
 TwinGets o (Call.sweep at) number = ⊥
 
--- a member behind a twin's call: 14 is tallied, and number, origin and report are as before
+-- a member after a twin's call that got this number: after 14 its tally is one higher, up to the limit; its number,
+-- origin and report are as before
 abbrev pub tallied : ℕ → Member → Member
 tallied number m =
     record { «record» = m .«record»; tally = cond (eqb number otherOrigin) (cut (m .tally + 1)) (m .tally) }
@@ -223,17 +226,18 @@ TwinAltersTallyAlone o Shown before call number =
 
 -- `Shown g m` says that m is among the members shown after the calls of g: number, origin, report and tally
 pub record Letter (o : Opening) (h : History) (Shown : History → Member → Type 0) : Type 0 where
-  -- "A member stands on the last report accepted under its source number, from the address that holds it", after any
-  -- beginning of the list; beside it stands "how many times its number was refused with 14, by report or farewell,
-  -- since it last joined" (E5)
+  -- "A member stands on the last report accepted under its source number, from the address that holds it": after any
+  -- beginning of the list, shown is whoever so stands, and nobody else
   pub members :
-      (before behind : History) → h ≡ before ++ behind → (m : Member) →
-      Shown before m ↔ (Stands o before (m .«record») × TallyIs o before (m .«record» .source) (m .tally))
-  -- and whoever so stands is a member, whose number then has a tally
-  pub all :
-      (before behind : History) → h ≡ before ++ behind → (x : Record) → Stands o before x →
-      (tally : ℕ) × Shown before (record { «record» = x; tally = tally })
-  -- "a twin at another address or port never alters it": not its number, origin or report
+      (before behind : History) → h ≡ before ++ behind → (x : Record) →
+      ((tally : ℕ) × Shown before (record { «record» = x; tally = tally })) ↔ Stands o before x
+  -- "beside each member, how many times its number was refused with 14, by report or farewell, since it last joined"
+  -- (E5). "It goes when the member goes": nobody else is shown.
+  pub tallies :
+      (before behind : History) → h ≡ before ++ behind → (m : Member) → Shown before m →
+      TallyIs o before (m .«record» .source) (m .tally)
+  -- "a twin at another address or port never alters it": not its number, origin or report. Its tally is one higher
+  -- after 14, up to the limit.
   pub twins : OfEachCall (TwinAltersTallyAlone o Shown) h
   -- every answer means what the table of refusal numbers says
   pub refusals : OfEachCall (λ before call number. Means (linesOf o before call) number) h

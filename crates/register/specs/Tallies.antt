@@ -12,9 +12,9 @@ use Rattle.register.specs.Register.{Opening, Rows, Call, hasNumber, answ
 abbrev pub Members : Type 0
 Members = List Member
 
-unfoldable pub rowsOf : Members → Rows
-rowsOf [] = []
-rowsOf (m ∷ ms) = m .«record» ∷ rowsOf ms
+unfoldable pub recordsOf : Members → Rows
+recordsOf [] = []
+recordsOf (m ∷ ms) = m .«record» ∷ recordsOf ms
 
 -- where a tally stops
 abbrev pub tallyLimit : ℕ
@@ -31,12 +31,12 @@ raised tally = cutAtLimit (tally + 1)
 -- a report or a farewell under this number; a sweep is under none
 abbrev pub isUnder : ℕ → Call → Bool
 isUnder source (Call.report x at) = hasNumber source x
-isUnder source (Call.farewell left origin) = eqb left source
+isUnder source (Call.farewell other origin) = eqb other source
 isUnder source (Call.sweep at) = false
 
 -- ---- from call to call
 
--- a number's tally: its member's, or 0 where it has none
+-- the tally kept for a number: its member's, or 0 where no member has it
 unfoldable pub tallyIn : Members → ℕ → ℕ
 tallyIn [] source = 0
 tallyIn (m ∷ ms) source = cond (hasNumber source (m .«record»)) (m .tally) (tallyIn ms source)
@@ -50,14 +50,13 @@ unfoldable pub withTallies : (ℕ → ℕ) → Rows → Members
 withTallies tally [] = []
 withTallies tally (row ∷ rows) = record { «record» = row; tally = tally (row .source) } ∷ withTallies tally rows
 
--- a number's tally after a call: the one before, or 0 where no member had it, and one higher where the call got 14
--- under it
+-- the tally kept for a number after a call: the one before, and one higher where the call got 14 under it
 abbrev pub tallyAfter : Opening → Members → Call → ℕ → ℕ
-tallyAfter o ms call source = tallyBehind call (answer o (rowsOf ms) call) source (tallyIn ms source)
+tallyAfter o ms call source = tallyBehind call (answer o (recordsOf ms) call) source (tallyIn ms source)
 
 -- the members that a call leaves: the rows are the plain register's
 unfoldable pub membersAfter : Opening → Members → Call → Members
-membersAfter o ms call = withTallies (tallyAfter o ms call) (after o (rowsOf ms) call)
+membersAfter o ms call = withTallies (tallyAfter o ms call) (after o (recordsOf ms) call)
 
 unfoldable pub membersAfterAll : Opening → Members → List Call → Members
 membersAfterAll o ms [] = ms

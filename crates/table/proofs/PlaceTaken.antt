@@ -18,7 +18,7 @@ use Rattle.register.specs.declared.Member.{Member}
 use Rattle.register.specs.declared.Reading.{Reading}
 use Rattle.times.specs.Times.{isFar, isAged, isBadlyPresented}
 use Rattle.register.specs.Register.{Opening, Rows, Call, presents, hasNumber, isOtherStream, reportChecks}
-use Rattle.register.specs.Tallies.{rowsOf}
+use Rattle.register.specs.Tallies.{recordsOf}
 use Rattle.register.proofs.Tallies.{length-rows}
 use Rattle.register.proofs.Rows.{clash}
 use Rattle.register.proofs.Letter.Lines.{tells-any}
@@ -206,8 +206,8 @@ taken-full o t rows h source full =
 pub place-taken : EveryReport
 unfolding answered numberOf
 place-taken o calls t ms reached x at =
-    let rows : Rows = rowsOf ms in
-    let h : Holds o t (rowsOf ms) = reached-holds o calls t ms reached in
+    let rows : Rows = recordsOf ms in
+    let h : Holds o t (recordsOf ms) = reached-holds o calls t ms reached in
     record {
       new =
           λ e new.

@@ -22,7 +22,7 @@ use Rattle.table.specs.Members.{placeAt, recordsIn, placeIn}
 use Rattle.table.specs.Calls.{isMember, isElsewhere, numberOf, withRaised, sourceOf, refusedBy, answered}
 use Rattle.table.specs.Choose.{choiceOf}
 use Rattle.table.specs.PlaceTaken.{ShowsMember, OnlyAt}
-use Rattle.table.specs.Refused.{DifferInTallies, LeavesRecords, LeavesTable, TalliesHolder, EveryRefusal}
+use Rattle.table.specs.Refused.{AlikeButTallies, LeavesRecords, LeavesTable, TalliesHolder, EveryRefusal}
 use Rattle.table.specs.Refused.{ChoosesWithoutTallies}
 use Rattle.table.proofs.Laws.Cases.{records-tallied}
 use Rattle.table.proofs.Agreement.Calls.{Owned, owned}
@@ -40,7 +40,7 @@ leaves-records : (t : Table) (call : Call) → LeavesRecords t call
 unfolding refusedBy
 leaves-records t call refused = rw (refused-table t call refused) (go (eqb (numberOf t call) otherOrigin))
   where
-    go : (b : Bool) → DifferInTallies t (cond b (withRaised t (placeIn t (sourceOf call))) t)
+    go : (b : Bool) → AlikeButTallies t (cond b (withRaised t (placeIn t (sourceOf call))) t)
     go true = (refl, refl, sym (records-tallied t (placeIn t (sourceOf call))))
     go false = (refl, refl, refl)
 

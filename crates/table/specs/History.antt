@@ -7,7 +7,7 @@
 --   of `origin` Origins, for the plain register alone;
 --   of `register` the records (src/lib.rt); Letter: members, tallies, twins and what each answer means; Choosing and
 --   Promise: what is chosen and what is promised of it; of Register `Opening`, `Call` and what Choosing and Promise
---   use; of Tallies `Members`, `rowsOf` and `isUnder`. The rest of Register is the papers' plain register, believed for
+--   use; of Tallies `Members`, `recordsOf` and `isUnder`. The rest of Register is the papers' plain register, believed for
 --   the sentence that answers and members are its own; the rest of Tallies is held to Letter.
 -- No belief needs what the contracts tie to code: `opened`, `answered`, `chosenOf`, `placeAt` and `memberCount` stand
 -- here as what `Table::open`, `report`, `farewell`, `sweep`, `choose`, `member_at` and `count_members` answer, whatever
@@ -22,7 +22,7 @@ use Rattle.register.specs.declared.Record.{Record}
 use Rattle.register.specs.declared.Member.{Member}
 use Rattle.register.specs.declared.Reading.{Reading}
 use Rattle.register.specs.Register.{Opening, Call, answers, afterAll}
-use Rattle.register.specs.Tallies.{Members, rowsOf, membersAfterAll}
+use Rattle.register.specs.Tallies.{Members, recordsOf, membersAfterAll}
 use Rattle.register.specs.Choosing.{choice}
 use Rattle.register.specs.Promise.{Unique, AllInRange, Promised}
 use Rattle.register.specs.Letter.{History, history, madeIn, BadOpening, openingLines, Means, Letter}
@@ -66,9 +66,9 @@ pub record Reached (o : Opening) (calls : List Call) (t : Table) (members : Memb
 pub record Agree (o : Opening) (t : Table) (members : Members) : Type 0 where
   pub opening : openingOf t ≡ o
   pub same : List·Permᴰ (membersOf t) members
-  pub unique : Unique (rowsOf members)
+  pub unique : Unique (recordsOf members)
   pub own :
-      (row : Record) → List·Memᴰ row (rowsOf members) →
+      (row : Record) → List·Memᴰ row (recordsOf members) →
       (row .report .group ≡ o .group) × (row .report .media ≡ o .media)
   -- as the public calls show them: the count is that of the register's members, a place that is not shown free shows
   -- one, each is shown, and no number at two places
@@ -86,7 +86,7 @@ pub record Demand3 (o : Opening) (calls : List Call) (t : Table) (members : Memb
   -- opening is taken, every answer is the plain register's, and so are the members' rows
   pub opens : opened o .number ≡ 0
   pub numbers : answersFrom (opened o .table) calls ≡ answers o [] calls
-  pub rows : rowsOf members ≡ afterAll o [] calls
+  pub rows : recordsOf members ≡ afterAll o [] calls
   pub agree : Agree o t members
   -- every call of the list has its answer
   pub whole : madeIn (history calls (answersFrom (opened o .table) calls)) ≡ calls
@@ -94,9 +94,9 @@ pub record Demand3 (o : Opening) (calls : List Call) (t : Table) (members : Memb
   -- the members shown by the tables handed back, of which t is the last
   pub letter : Letter o (history calls (answersFrom (opened o .table) calls)) (IsShown o)
   -- choosing gives the register's choice at any reading, and leaves the table as it was
-  pub chosen : (at : Reading) → chosenOf t at ≡ record { choice = choice o at (rowsOf members); table = t }
+  pub chosen : (at : Reading) → chosenOf t at ≡ record { choice = choice o at (recordsOf members); table = t }
   -- what the customer is promised of that choice
-  pub promised : (at : Reading) → Promised o at (rowsOf members) (chosenOf t at .choice)
+  pub promised : (at : Reading) → Promised o at (recordsOf members) (chosenOf t at .choice)
 
 -- demand 3: whatever the opening, the list of calls, and the table and members that they leave
 abbrev pub EveryList : Type 0

@@ -6,7 +6,7 @@ use lib.ListN.{getD, replicate}
 use Rattle.places.specs.Places.{isFree, heldIn, holdsPlace}
 use Rattle.register.specs.declared.Member.{Member}
 use Rattle.register.specs.Register.{Opening, Rows, hasNumber}
-use Rattle.register.specs.Tallies.{Members, rowsOf}
+use Rattle.register.specs.Tallies.{Members, recordsOf}
 use Rattle.choosing.specs.Marked.{zeros, nobody, markedAt}
 use Rattle.table.specs.declared.Table.{Table}
 use Rattle.table.specs.declared.Place.{Place}
@@ -44,7 +44,7 @@ placeAt t place =
 
 -- the records at all 64 places, held or not
 abbrev pub recordsIn : Table → Rows
-recordsIn t = rowsOf (t .members)
+recordsIn t = recordsOf (t .members)
 
 -- the place of the member with a number, or behind the last where none has it: 64 in a table
 unfoldable pub placeOf : ℕ → ℕ → Rows → ℕ

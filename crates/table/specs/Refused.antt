@@ -15,12 +15,12 @@ use Rattle.table.specs.Choose.{chosenOf}
 use Rattle.table.specs.PlaceTaken.{ShowsMember, OnlyAt}
 
 -- table values that differ in tallies at most
-abbrev pub DifferInTallies : Table → Table → Type 0
-DifferInTallies t u = (openingOf t ≡ openingOf u) × (t .held ≡ u .held) × (recordsIn t ≡ recordsIn u)
+abbrev pub AlikeButTallies : Table → Table → Type 0
+AlikeButTallies t u = (openingOf t ≡ openingOf u) × (t .held ≡ u .held) × (recordsIn t ≡ recordsIn u)
 
 -- every refusal, 14 too, leaves group, media source and rate, the places held and every record as they were
 abbrev pub LeavesRecords : Table → Call → Type 0
-LeavesRecords t call = (answered t call .number ≡ 0 → ⊥) → DifferInTallies t (answered t call .table)
+LeavesRecords t call = (answered t call .number ≡ 0 → ⊥) → AlikeButTallies t (answered t call .table)
 
 -- a refusal other than 14 leaves the tallies too: the table is as it was
 abbrev pub LeavesTable : Table → Call → Type 0
@@ -44,4 +44,4 @@ pub record EveryRefusal : Type 0 where
 -- tables that differ in tallies at most choose alike, at every reading
 abbrev pub ChoosesWithoutTallies : Type 0
 ChoosesWithoutTallies =
-    (t u : Table) → DifferInTallies t u → (at : Reading) → chosenOf t at .choice ≡ chosenOf u at .choice
+    (t u : Table) → AlikeButTallies t u → (at : Reading) → chosenOf t at .choice ≡ chosenOf u at .choice

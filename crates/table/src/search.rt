@@ -8,7 +8,7 @@ ghost use Prim.Native.Nat.{_<_};
 ghost use lib.Dec.{ltb, eqb};
 ghost use lib.ListN.{getD};
 ghost use Rattle.places.specs.Places.{isFree};
-ghost use Rattle.register.specs.Tallies.{rowsOf};
+ghost use Rattle.register.specs.Tallies.{recordsOf};
 ghost use Rattle.choosing.specs.Marked.{nobody};
 ghost use Rattle.table.specs.Members.{placeOf};
 ghost use Rattle.table.specs.Calls.{elsewhereAt};
@@ -25,7 +25,7 @@ fn is_held_by(word: u64, number: u32, source: u32) -> bool
 
 // The place of the member with a number, which is held, or 64 where none has it.
 pub(crate) fn place_of(held: u64, members: [Member; 64], source: u32) -> usize
-    ensures { λ r. ⌜ r ≡ placeOf source held (rowsOf members) ⌝ }
+    ensures { λ r. ⌜ r ≡ placeOf source held (recordsOf members) ⌝ }
 {
     let mut word = held;
     let mut i: usize = 0;
@@ -49,7 +49,7 @@ pub(crate) fn member_of(members: [Member; 64], place: usize) -> Member
 
 // Whether a member stands at a place, with another origin.
 pub(crate) fn is_elsewhere(members: [Member; 64], place: usize, origin: Origin) -> bool
-    ensures { λ r. ⌜ r ≡ elsewhereAt (rowsOf members) place origin ⌝ }
+    ensures { λ r. ⌜ r ≡ elsewhereAt (recordsOf members) place origin ⌝ }
 {
     if 64 <= place {
         return false;

@@ -16,7 +16,7 @@ use Rattle.places.proofs.Laws.Bits.{lowest-bit, bit-half, bit-none, power-next}
 use Rattle.places.proofs.Laws.Free.{held-step}
 use Rattle.register.specs.declared.Record.{Record}
 use Rattle.register.specs.Register.{Rows, filter, any}
-use Rattle.register.specs.Tallies.{Members, rowsOf}
+use Rattle.register.specs.Tallies.{Members, recordsOf}
 use Rattle.choosing.specs.Marked.{markedAt, filterWord, nowhere, nobody}
 
 -- ---- one place more
@@ -35,22 +35,22 @@ marked-held word m ms e = rw e refl
 -- ---- the rows of members
 
 -- the record of the member at a place
-pub row-at : (ms : Members) (place : ℕ) → getD (rowsOf ms) place nowhere ≡ getD ms place nobody .«record»
-unfolding rowsOf
+pub row-at : (ms : Members) (place : ℕ) → getD (recordsOf ms) place nowhere ≡ getD ms place nobody .«record»
+unfolding recordsOf
 row-at [] place = refl
 row-at (m ∷ ms) zero = refl
 row-at (m ∷ ms) (suc place) = row-at ms place
 
 -- those that a word marks
-pub rows-of-marked : (word : ℕ) (ms : Members) → rowsOf (markedAt word ms) ≡ markedAt word (rowsOf ms)
-unfolding rowsOf markedAt
+pub rows-of-marked : (word : ℕ) (ms : Members) → recordsOf (markedAt word ms) ≡ markedAt word (recordsOf ms)
+unfolding recordsOf markedAt
 rows-of-marked word [] = refl
 rows-of-marked word (m ∷ ms) = go (isFree word) (rows-of-marked (word / 2) ms)
   where
     go :
-        (t : Bool) → rowsOf (markedAt (word / 2) ms) ≡ markedAt (word / 2) (rowsOf ms) →
-        rowsOf (cond t (markedAt (word / 2) ms) (m ∷ markedAt (word / 2) ms))
-        ≡ cond t (markedAt (word / 2) (rowsOf ms)) (m .«record» ∷ markedAt (word / 2) (rowsOf ms))
+        (t : Bool) → recordsOf (markedAt (word / 2) ms) ≡ markedAt (word / 2) (recordsOf ms) →
+        recordsOf (cond t (markedAt (word / 2) ms) (m ∷ markedAt (word / 2) ms))
+        ≡ cond t (markedAt (word / 2) (recordsOf ms)) (m .«record» ∷ markedAt (word / 2) (recordsOf ms))
     go true same = same
     go false same = ap (λ (rows : Rows). m .«record» ∷ rows) same
 
@@ -88,8 +88,8 @@ marked-filterWord test word (m ∷ ms) =
 -- a test of the records is one of the members
 pub filterWord-rows :
     (test : Record → Bool) (word : ℕ) (ms : Members) →
-    filterWord test word (rowsOf ms) ≡ filterWord (λ m. test (m .«record»)) word ms
-unfolding filterWord rowsOf
+    filterWord test word (recordsOf ms) ≡ filterWord (λ m. test (m .«record»)) word ms
+unfolding filterWord recordsOf
 filterWord-rows test word [] = refl
 filterWord-rows test word (m ∷ ms) =
     ap (λ (n : ℕ). bit (not (isFree word) && test (m .«record»)) + 2 * n) (filterWord-rows test (word / 2) ms)

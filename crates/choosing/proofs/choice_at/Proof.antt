@@ -1,7 +1,7 @@
 -- The members counted are fresh, so the biased number orders them as lateness does.
 use mathlib.Core.Path.{ap, _∙_}
 use borrow.Author.Needs.{needs}
-use Rattle.register.specs.Tallies.{rowsOf}
+use Rattle.register.specs.Tallies.{recordsOf}
 use Rattle.choosing.specs.Choose.{countedIn}
 use Rattle.choosing.proofs.Laws.Biased.{choice-counted}
 use Rattle.choosing.proofs.choice_at.Statement.{statement}
@@ -21,7 +21,7 @@ returns c =
     let after = c .before .before in
     let x = after .before .args in
     let marks-at = after .marks-at in
-    choice-counted (x .rate) (x .at) (x .held) (rowsOf (x .members)) (c .before .counted-word .result)
+    choice-counted (x .rate) (x .at) (x .held) (recordsOf (x .members)) (c .before .counted-word .result)
     (c .before .counted-word .ensures ∙ ap countedIn (marks-at .ensures))
     (c .choice-in .result)
     (c .choice-in .ensures)

@@ -4,7 +4,7 @@ use native.Mathlib.Omega.{arith}
 use borrow.Author.Needs.{needs}
 use Rattle.places.specs.Places.{heldIn}
 use Rattle.register.specs.declared.Record.{Record}
-use Rattle.register.specs.Tallies.{rowsOf}
+use Rattle.register.specs.Tallies.{recordsOf}
 use Rattle.register.specs.Choosing.{targetOf}
 use Rattle.choosing.specs.Marked.{markedAt}
 use Rattle.choosing.specs.Lateness.{biasedLate}
@@ -21,8 +21,8 @@ returns c =
     let after = c .before in
     let x = after .before .args in
     let latest-place = after .latest-place in
-    latestTarget-none (biasedLate (x .rate) (x .at)) (heldIn 64 (x .word)) (rowsOf (x .t2))
-    (markedAt (x .word) (rowsOf (x .t2)))
+    latestTarget-none (biasedLate (x .rate) (x .at)) (heldIn 64 (x .word)) (recordsOf (x .t2))
+    (markedAt (x .word) (recordsOf (x .t2)))
     (latest-place .result)
     (latest-place .ensures (heldIn 64 (x .word)))
     (omega arith)
@@ -45,8 +45,8 @@ returns-2 c =
     let x = after .before .args in
     let latest-place = after .latest-place in
     let count-held = c .before .count-held in
-    latestTarget-one (biasedLate (x .rate) (x .at)) (heldIn 64 (x .word)) (rowsOf (x .t2))
-    (markedAt (x .word) (rowsOf (x .t2)))
+    latestTarget-one (biasedLate (x .rate) (x .at)) (heldIn 64 (x .word)) (recordsOf (x .t2))
+    (markedAt (x .word) (recordsOf (x .t2)))
     (latest-place .result)
     (latest-place .ensures (heldIn 64 (x .word)))
     (omega arith)

@@ -3,7 +3,7 @@ use Prim.Native.Nat.{_-_, _≤_, _<_}
 use lib.ListN.{length}
 use native.Mathlib.Omega.{arith}
 use borrow.Author.Needs.{needs}
-use Rattle.register.specs.Tallies.{rowsOf}
+use Rattle.register.specs.Tallies.{recordsOf}
 use Rattle.register.proofs.Tallies.{length-rows}
 use Rattle.choosing.proofs.Laws.Marked.{row-at}
 use Rattle.choosing.proofs.Laws.Candidates.{LatestSoFar, latest-start, latest-step, latest-end}
@@ -12,7 +12,7 @@ use Rattle.choosing.proofs.latest_place.Tie as tie
 
 abbrev Inv-loop : tie.InvT-loop
 Inv-loop word rate at members latest₀ rest₀ i₀ latest rest i =
-    (i ≤ 64) × LatestSoFar rate at word (rowsOf members) latest rest i
+    (i ≤ 64) × LatestSoFar rate at word (recordsOf members) latest rest i
 
 abbrev μ-loop : tie.MeasureT-loop
 μ-loop word rate at members latest₀ rest₀ i₀ latest rest i = 64 - i
@@ -41,7 +41,7 @@ loop-again c =
     let start = around .before in
     let loop = around .loop in
     let ms = start .args .t2 in
-    let within : loop .i < length (rowsOf ms) = omega (arith, start .good, length-rows ms) in (
+    let within : loop .i < length (recordsOf ms) = omega (arith, start .good, length-rows ms) in (
       omega arith,
       latest-step (omega arith) within (loop .inv .1) (rw (← row-at ms (loop .i)) at (c .latest-next .ensures)),
     )
@@ -51,7 +51,7 @@ returns c =
     let start = c .before .before in
     let loop = c .before .loop in
     let ms = start .args .t2 in
-    let all : length (rowsOf ms) ≤ loop .i = omega (arith, start .good, length-rows ms) in
+    let all : length (recordsOf ms) ≤ loop .i = omega (arith, start .good, length-rows ms) in
     latest-end all (loop .inv .1)
 
 pub latest-place-spec : {M : Type 1} → statement M

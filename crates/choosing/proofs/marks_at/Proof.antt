@@ -6,7 +6,7 @@ use lib.ListN.{length, getD}
 use native.Mathlib.Omega.{arith}
 use borrow.Author.Needs.{needs}
 use Rattle.register.specs.Register.{presents, freshAt}
-use Rattle.register.specs.Tallies.{rowsOf}
+use Rattle.register.specs.Tallies.{recordsOf}
 use Rattle.register.proofs.Tallies.{length-rows}
 use Rattle.places.specs.Places.{isFree}
 use Rattle.choosing.specs.Marked.{nowhere}
@@ -18,8 +18,8 @@ use Rattle.choosing.proofs.marks_at.Tie as tie
 abbrev Inv-loop : tie.InvT-loop
 Inv-loop held rate at members fresh₀ presenting₀ word₀ i₀ fresh presenting word i =
     (i ≤ 64)
-    × KeptSoFar (freshAt (atRate rate) at) held (rowsOf members) fresh word i
-    × KeptSoFar (λ m. freshAt (atRate rate) at m && presents m) held (rowsOf members) presenting word i
+    × KeptSoFar (freshAt (atRate rate) at) held (recordsOf members) fresh word i
+    × KeptSoFar (λ m. freshAt (atRate rate) at m && presents m) held (recordsOf members) presenting word i
 
 abbrev μ-loop : tie.MeasureT-loop
 μ-loop held rate at members fresh₀ presenting₀ word₀ i₀ fresh presenting word i = 64 - i
@@ -57,8 +57,8 @@ loop-again c =
     let start = around .before in
     let loop = around .loop in
     let ms = start .args .t2 in
-    let within : loop .i < length (rowsOf ms) = omega (arith, start .good, length-rows ms) in
-    let row = getD (rowsOf ms) (loop .i) nowhere in
+    let within : loop .i < length (recordsOf ms) = omega (arith, start .good, length-rows ms) in
+    let row = getD (recordsOf ms) (loop .i) nowhere in
     let fresh : Bool = freshAt (atRate (start .args .rate)) (start .args .at) row in
     let marked : c .before .before .before .before .is-marked-fresh .result ≡ (not (isFree (loop .word)) && fresh) =
     rw (← row-at ms (loop .i)) at (c .before .before .before .before .is-marked-fresh .ensures) in
@@ -76,7 +76,7 @@ returns c =
     let start = c .before .before in
     let loop = c .before .loop in
     let ms = start .args .t2 in
-    let all : length (rowsOf ms) ≤ loop .i = omega (arith, start .good, length-rows ms) in
+    let all : length (recordsOf ms) ≤ loop .i = omega (arith, start .good, length-rows ms) in
     rw (kept-end all (loop .inv .1), kept-end all (loop .inv .2)) refl
 
 pub marks-at-spec : {M : Type 1} → statement M

@@ -14,7 +14,7 @@ use Rattle.register.specs.declared.Member.{Member}
 use Rattle.register.specs.declared.Reading.{Reading}
 use Rattle.register.specs.Register.{Opening, Rows, Call, filter, hasNumber, isOtherStream, answer, freshAt}
 use Rattle.register.specs.Register.{any, accepted, after, answers}
-use Rattle.register.specs.Tallies.{Members, rowsOf, raised, isUnder, tallyIn, tallyAfter, membersAfter}
+use Rattle.register.specs.Tallies.{Members, recordsOf, raised, isUnder, tallyIn, tallyAfter, membersAfter}
 use Rattle.register.specs.Tallies.{membersAfterAll}
 use Rattle.register.specs.Letter.{got, History, history, madeIn, OfEachCall, OtherStream, Ends, Stands, AreAll}
 use Rattle.register.specs.Letter.{HeldElsewhere, linesOf, NoneOf, MeansBehind, Means, FromTwin, TwinGets}
@@ -87,7 +87,7 @@ IsMember o h m = List·Memᴰ m (membersAfterAll o [] (madeIn h))
 
 -- after a history, these are the register's members: their rows are all that stand, and their tallies the history's
 pub record Told (o : Opening) (h : History) (ms : Members) : Type 0 where
-  pub all : AreAll o h (rowsOf ms)
+  pub all : AreAll o h (recordsOf ms)
   pub kept : Kept ms
   pub tallied : TalliesOfHistory o h ms
   pub members-are : membersAfterAll o [] (madeIn h) ≡ ms
@@ -155,39 +155,38 @@ all-more o h rows all call =
 
 told-more :
     (o : Opening) (h : History) (ms : Members) → Told o h ms → (call : Call) →
-    Told o (h ++ (got call (answer o (rowsOf ms) call) ∷ [])) (membersAfter o ms call)
+    Told o (h ++ (got call (answer o (recordsOf ms) call) ∷ [])) (membersAfter o ms call)
 unfolding membersAfterAll
 told-more o h ms told call =
     record {
-      all = rw (rows-after o ms call) (all-more o h (rowsOf ms) (told .all) call);
+      all = rw (rows-after o ms call) (all-more o h (recordsOf ms) (told .all) call);
       kept = kept-after o ms call;
       tallied =
           tallied-more o h ms (told .all) call (told .tallied)
-          (λ y. after-stand o h (rowsOf ms) (told .all) call y .0);
+          (λ y. after-stand o h (recordsOf ms) (told .all) call y .0);
       members-are =
-          ap (membersAfterAll o []) (made-more h call (answer o (rowsOf ms) call))
+          ap (membersAfterAll o []) (made-more h call (answer o (recordsOf ms) call))
           ∙ members-append o [] (madeIn h) (call ∷ [])
           ∙ ap (λ (those : Members). membersAfter o those call) (told .members-are);
     }
 
--- the members are those that stand, with the history's tallies
+-- the members are those that stand
 told-members :
-    (o : Opening) (h : History) (ms : Members) → Told o h ms → (m : Member) →
-    List·Memᴰ m ms ↔ (Stands o h (m .«record») × TallyIs o h (m .«record» .source) (m .tally))
-told-members o h ms told m = (
-  λ member.
-      let both : _ = told .kept m .0 member in
-      (told .all .those x .0 (both .0), told .tallied (x .source) (held (both .0)) (m .tally) .1 (both .1)),
-  λ both.
-      let row : List·Memᴰ x (rowsOf ms) = told .all .those x .1 (both .0) in
-      told .kept m .1 (row, told .tallied (x .source) (held row) (m .tally) .0 (both .1)),
+    (o : Opening) (h : History) (ms : Members) → Told o h ms → (x : Record) →
+    ((tally : ℕ) × List·Memᴰ (record { «record» = x; tally = tally }) ms) ↔ Stands o h x
+told-members o h ms told x = (
+  λ member. told .all .those x .0 (told .kept _ .0 (member .1) .0),
+  λ s. (tallyIn ms (x .source), told .kept _ .1 (told .all .those x .1 s, refl)),
 )
-  where
-    x : Record
-    x = m .«record»
 
-    held : List·Memᴰ (m .«record») (rowsOf ms) → any (hasNumber (m .«record» .source)) (rowsOf ms) ≡ true
-    held = number-of-row (m .«record») (rowsOf ms)
+-- with the history's tallies
+told-tallies :
+    (o : Opening) (h : History) (ms : Members) → Told o h ms → (m : Member) → List·Memᴰ m ms →
+    TallyIs o h (m .«record» .source) (m .tally)
+told-tallies o h ms told m member =
+    let x : Record = m .«record» in
+    let both : _ = told .kept m .0 member in
+    rw (both .1) (told .tallied (x .source) (number-of-row x (recordsOf ms) (both .0)))
 
 -- ---- twins
 
@@ -225,17 +224,17 @@ twin-under x (Call.sweep at) twin = absurd twin
 -- refused, it leaves the member, with 14 tallied
 twin-tallied :
     (o : Opening) (ms : Members) (call : Call) (m : Member) → Kept ms → List·Memᴰ m ms → FromTwin (m .«record») call →
-    (answer o (rowsOf ms) call ≡ 0 → ⊥) →
-    List·Memᴰ (tallied (answer o (rowsOf ms) call) m) (membersAfter o ms call)
+    (answer o (recordsOf ms) call ≡ 0 → ⊥) →
+    List·Memᴰ (tallied (answer o (recordsOf ms) call) m) (membersAfter o ms call)
 twin-tallied o ms call m kept member twin refused =
     let x : Record = m .«record» in
     let both : _ = kept m .0 member in
-    let row : List·Memᴰ x (after o (rowsOf ms) call) =
-    rw (after-refused o (rowsOf ms) call refused) (both .0) in
-    let own : tallyAfter o ms call (x .source) ≡ tallied (answer o (rowsOf ms) call) m .tally =
+    let row : List·Memᴰ x (after o (recordsOf ms) call) =
+    rw (after-refused o (recordsOf ms) call refused) (both .0) in
+    let own : tallyAfter o ms call (x .source) ≡ tallied (answer o (recordsOf ms) call) m .tally =
     rw (twin-under x call twin, ← both .1) (ap (λ (t : Bool). cond t (raised (m .tally)) (m .tally))
-    (and-true (eqb (answer o (rowsOf ms) call) otherOrigin))) in
-    kept-after o ms call (tallied (answer o (rowsOf ms) call) m) .1
+    (and-true (eqb (answer o (recordsOf ms) call) otherOrigin))) in
+    kept-after o ms call (tallied (answer o (recordsOf ms) call) m) .1
     (rw (rows-after o ms call) row, sym (tally-after o ms call (x .source) (number-of-row x _ row) ∙ own))
 
 -- what the letter says of one call, its answer and the members that it leaves
@@ -244,17 +243,17 @@ Says o h call number = TwinAltersTallyAlone o (IsMember o) h call number × Mean
 
 says-next :
     (o : Opening) (h : History) (ms : Members) → Told o h ms → (call : Call) →
-    Says o h call (answer o (rowsOf ms) call)
+    Says o h call (answer o (recordsOf ms) call)
 says-next o h ms told call = (twins, means)
   where
-    means : Means (linesOf o h call) (answer o (rowsOf ms) call)
-    means = answer-means o h (rowsOf ms) (told .all) call
+    means : Means (linesOf o h call) (answer o (recordsOf ms) call)
+    means = answer-means o h (recordsOf ms) (told .all) call
 
-    twins : TwinAltersTallyAlone o (IsMember o) h call (answer o (rowsOf ms) call)
+    twins : TwinAltersTallyAlone o (IsMember o) h call (answer o (recordsOf ms) call)
     twins m is twin =
         let member : List·Memᴰ m ms = rw (told .members-are) at is in
-        let stands : Stands o h (m .«record») = told-members o h ms told m .0 member .0 in
-        let gets : _ = twin-refused o h call (answer o (rowsOf ms) call) means (m .«record») stands twin in (
+        let stands : Stands o h (m .«record») = told-members o h ms told (m .«record») .0 (m .tally, member) in
+        let gets : _ = twin-refused o h call (answer o (recordsOf ms) call) means (m .«record») stands twin in (
           gets .0,
           rw (told-more o h ms told call .members-are)
               (twin-tallied o ms call m (told .kept) member twin (gets .1)),
@@ -262,19 +261,19 @@ says-next o h ms told call = (twins, means)
 
 follows :
     (o : Opening) (h : History) (ms : Members) (calls : List Call) → Told o h ms → OfEachCall (Says o) h →
-    Told o (h ++ history calls (answers o (rowsOf ms) calls)) (membersAfterAll o ms calls)
-    × OfEachCall (Says o) (h ++ history calls (answers o (rowsOf ms) calls))
+    Told o (h ++ history calls (answers o (recordsOf ms) calls)) (membersAfterAll o ms calls)
+    × OfEachCall (Says o) (h ++ history calls (answers o (recordsOf ms) calls))
 unfolding history answers membersAfterAll
 follows o h ms [] told each = rw (append-nil h) (told, each)
 follows o h ms (call ∷ calls) told each =
-    let number : ℕ = answer o (rowsOf ms) call in
+    let number : ℕ = answer o (recordsOf ms) call in
     let next : _ =
     follows o (h ++ (got call number ∷ [])) (membersAfter o ms call) calls (told-more o h ms told call)
     (each-more (Says o) h call number each (says-next o h ms told call)) in
     rw (append-assoc h (got call number ∷ []) _, rows-after o ms call) at next
 
 told-none : (o : Opening) → Told o [] []
-unfolding filter madeIn membersAfterAll rowsOf any
+unfolding filter madeIn membersAfterAll recordsOf any
 told-none o =
     record {
       all = record {
@@ -310,19 +309,13 @@ beginning o rows (call ∷ calls) (got first n ∷ before) behind e =
 
 -- Whatever the calls, the letter's sentences hold of the register's answers and members.
 pub letter : (o : Opening) (calls : List Call) → Letter o (history calls (answers o [] calls)) (IsMember o)
-unfolding rowsOf
+unfolding recordsOf
 letter o calls =
     record {
       members = λ before behind e.
-          let begins : _ = beginning o [] calls before behind e in
-          let there : Told o before (membersAfterAll o [] (madeIn before)) =
-          rw (← begins) at (run (madeIn before) .0) in
-          told-members o before (membersAfterAll o [] (madeIn before)) there;
-      all = λ before behind e x s.
-          let begins : _ = beginning o [] calls before behind e in
-          let ms : Members = membersAfterAll o [] (madeIn before) in
-          let there : Told o before ms = rw (← begins) at (run (madeIn before) .0) in
-          (tallyIn ms (x .source), there .kept _ .1 (there .all .those x .1 s, refl));
+          told-members o before (membersAfterAll o [] (madeIn before)) (told before behind e);
+      tallies = λ before behind e.
+          told-tallies o before (membersAfterAll o [] (madeIn before)) (told before behind e);
       twins = λ before call number behind e. run calls .1 before call number behind e .0;
       refusals = λ before call number behind e. run calls .1 before call number behind e .1;
     }
@@ -333,17 +326,23 @@ letter o calls =
         × OfEachCall (Says o) (history those (answers o [] those))
     run those = follows o [] [] those (told-none o) (each-none (Says o))
 
+    told :
+        (before behind : History) → history calls (answers o [] calls) ≡ before ++ behind →
+        Told o before (membersAfterAll o [] (madeIn before))
+    told before behind e = rw (← beginning o [] calls before behind e) at (run (madeIn before) .0)
+
 -- ... and of whoever shows the same members.
 pub letter-shown :
     (o : Opening) (h : History) (Shown Other : History → Member → Type 0) →
     ((g : History) (m : Member) → Shown g m ↔ Other g m) → Letter o h Shown → Letter o h Other
 letter-shown o h Shown Other same l =
     record {
-      members = λ before behind e m.
-          let member : _ = l .members before behind e m in
-          (λ shown. member .0 (same before m .1 shown), λ s. same before m .0 (member .1 s));
-      all = λ before behind e x s.
-          let member : _ = l .all before behind e x s in (member .0, same before _ .0 (member .1));
+      members = λ before behind e x.
+          let member : _ = l .members before behind e x in (
+            λ shown. member .0 (shown .0, same before _ .1 (shown .1)),
+            λ s. (member .1 s .0, same before _ .0 (member .1 s .1)),
+          );
+      tallies = λ before behind e m shown. l .tallies before behind e m (same before m .1 shown);
       twins = λ before call number behind e m shown twin.
           let gets : _ = l .twins before call number behind e m (same before m .1 shown) twin in
           (gets .0, same (before ++ (got call number ∷ [])) (tallied number m) .0 (gets .1));

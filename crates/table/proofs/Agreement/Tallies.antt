@@ -14,7 +14,7 @@ use Rattle.refusals.specs.Refusals.{otherOrigin}
 use Rattle.register.specs.declared.Record.{Record}
 use Rattle.register.specs.declared.Member.{Member}
 use Rattle.register.specs.Register.{Opening, Call, filter, farewellChecks, freshAt, after}
-use Rattle.register.specs.Tallies.{Members, rowsOf, raised, isUnder, tallyIn, tallyBehind, membersAfter}
+use Rattle.register.specs.Tallies.{Members, recordsOf, raised, isUnder, tallyIn, tallyBehind, membersAfter}
 use Rattle.register.proofs.Rows.{kept-member, member-permuted}
 use Rattle.register.proofs.Unique.{unique-permuted}
 use Rattle.register.proofs.Letter.Members.{alone}
@@ -68,7 +68,7 @@ twin-number t (Call.report x at) e =
 twin-number t (Call.farewell source origin) e = (and-eq-true-iff _ _ .0 e .0, λ other. refl)
 twin-number t (Call.sweep at) e = absurd e
 
-module _ (o : Opening) (t : Table) (ms : Members) (h : Holds o t (rowsOf ms)) (tallies : TalliesAgree t ms) where
+module _ (o : Opening) (t : Table) (ms : Members) (h : Holds o t (recordsOf ms)) (tallies : TalliesAgree t ms) where
   -- ---- the member of a number
 
   within : (source : ℕ) → Owned t source → placeIn t source < length (t .members)
@@ -121,7 +121,7 @@ module _ (o : Opening) (t : Table) (ms : Members) (h : Holds o t (rowsOf ms)) (t
       go false e member =
           let below : _ = free-place t (x .source) e room in
           let free : _ = lowest-free-below 64 (t .held) (h .fits) below .0 in
-          let none : _ = tally-none ms (x .source) (none-of-number o t (rowsOf ms) h (x .source) e) in
+          let none : _ = tally-none ms (x .source) (none-of-number o t (recordsOf ms) h (x .source) e) in
           here (anew x) _ (sym none) (λ z. z)
           (member-permuted
           (marked-with (t .held) (lowestFree 64 (t .held)) (t .members) (anew x) free (omega (arith, below, h .long))
@@ -156,7 +156,7 @@ module _ (o : Opening) (t : Table) (ms : Members) (h : Holds o t (rowsOf ms)) (t
       let row : List·Memᴰ (m .«record») (markedAt word (recordsIn t)) =
       rw (← rows-of-marked word (t .members)) (record-member m (markedAt word (t .members)) rest) in
       alone _ (m .«record») (markedAt word (recordsIn t))
-      (unique-permuted (rows-of-owner o t (rowsOf ms) h source w) (h .unique)) row (same ∙ sym (w .number))
+      (unique-permuted (rows-of-owner o t (recordsOf ms) h source w) (h .unique)) row (same ∙ sym (w .number))
 
   tallied-tallies :
       (call : Call) → IsElsewhere t call → (m : Member) →
@@ -212,8 +212,8 @@ module _ (o : Opening) (t : Table) (ms : Members) (h : Holds o t (rowsOf ms)) (t
   pub answered-tallies : (call : Call) → TalliesAgree (answered t call .table) (membersAfter o ms call)
   answered-tallies call m member =
       let source : ℕ = m .«record» .source in
-      let row : List·Memᴰ (m .«record») (after o (rowsOf ms) call) =
-      member-permuted (answered-holds o t (rowsOf ms) h call .same) (row-of-member (answered t call .table) m member) in
+      let row : List·Memᴰ (m .«record») (after o (recordsOf ms) call) =
+      member-permuted (answered-holds o t (recordsOf ms) h call .same) (row-of-member (answered t call .table) m member) in
       answered-behind call m member
-      ∙ ap (λ (n : ℕ). tallyBehind call n source (tallyIn ms source)) (number-same o t (rowsOf ms) h call)
+      ∙ ap (λ (n : ℕ). tallyBehind call n source (tallyIn ms source)) (number-same o t (recordsOf ms) h call)
       ∙ sym (tally-after o ms call source (number-of-row (m .«record») _ row))

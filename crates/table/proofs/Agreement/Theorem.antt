@@ -15,7 +15,7 @@ use Rattle.register.specs.declared.Member.{Member}
 use Rattle.register.specs.declared.Reading.{Reading}
 use Rattle.register.specs.declared.Choice.{Choice}
 use Rattle.register.specs.Register.{Opening, Rows, Call, isRefusedOpening, filter, answer, after, answers, afterAll}
-use Rattle.register.specs.Tallies.{Members, rowsOf, membersAfter, membersAfterAll}
+use Rattle.register.specs.Tallies.{Members, recordsOf, membersAfter, membersAfterAll}
 use Rattle.register.specs.Choosing.{choice}
 use Rattle.register.specs.Promise.{AllInRange, Promised}
 use Rattle.register.specs.Letter.{History, history, madeIn, BadOpening}
@@ -79,25 +79,25 @@ opening-answered o = go (isRefusedOpening o) refl
 
 -- from a table and members in agreement: every answer is the register's, and they agree afterwards
 record AlikeAfter (o : Opening) (t : Table) (ms : Members) (calls : List Call) : Type 0 where
-  answers-same : answersFrom t calls ≡ answers o (rowsOf ms) calls
-  holds : Holds o (tableFrom t calls) (rowsOf (membersAfterAll o ms calls))
+  answers-same : answersFrom t calls ≡ answers o (recordsOf ms) calls
+  holds : Holds o (tableFrom t calls) (recordsOf (membersAfterAll o ms calls))
   tallies : TalliesAgree (tableFrom t calls) (membersAfterAll o ms calls)
 
 alike-after :
-    (o : Opening) (t : Table) (ms : Members) (calls : List Call) → Holds o t (rowsOf ms) → TalliesAgree t ms →
+    (o : Opening) (t : Table) (ms : Members) (calls : List Call) → Holds o t (recordsOf ms) → TalliesAgree t ms →
     AlikeAfter o t ms calls
 unfolding answersFrom tableFrom answers membersAfterAll answered
 alike-after o t ms [] h tallies = record { answers-same = refl; holds = h; tallies = tallies }
 alike-after o t ms (call ∷ calls) h tallies =
-    let rows : rowsOf (membersAfter o ms call) ≡ after o (rowsOf ms) call = rows-after o ms call in
+    let rows : recordsOf (membersAfter o ms call) ≡ after o (recordsOf ms) call = rows-after o ms call in
     let next : _ =
     alike-after o (answered t call .table) (membersAfter o ms call) calls
-    (rw rows (answered-holds o t (rowsOf ms) h call))
+    (rw rows (answered-holds o t (recordsOf ms) h call))
     (answered-tallies o t ms h tallies call) in
     record {
       answers-same =
-          ap (λ (n : ℕ). n ∷ answersFrom (answered t call .table) calls) (number-same o t (rowsOf ms) h call)
-          ∙ ap (λ (ns : List ℕ). answer o (rowsOf ms) call ∷ ns)
+          ap (λ (n : ℕ). n ∷ answersFrom (answered t call .table) calls) (number-same o t (recordsOf ms) h call)
+          ∙ ap (λ (ns : List ℕ). answer o (recordsOf ms) call ∷ ns)
           (next .answers-same ∙ ap (λ (rs : Rows). answers o rs calls) rows);
       holds = next .holds;
       tallies = next .tallies;
@@ -105,7 +105,7 @@ alike-after o t ms (call ∷ calls) h tallies =
 
 -- from the table that opening returned
 from-opened : (o : Opening) → (BadOpening o → ⊥) → (calls : List Call) → AlikeAfter o (opened o .table) [] calls
-unfolding rowsOf
+unfolding recordsOf
 from-opened o taken calls =
     let opens : _ = opened-holds o taken in alike-after o (opened o .table) [] calls (opens .1) (opens .2)
 
@@ -135,7 +135,7 @@ promised-same o t rows h sound at =
 
 -- the table's members are the register's
 members-same :
-    (o : Opening) (t : Table) (ms : Members) → Holds o t (rowsOf ms) → TalliesAgree t ms → Kept ms →
+    (o : Opening) (t : Table) (ms : Members) → Holds o t (recordsOf ms) → TalliesAgree t ms → Kept ms →
     List·Permᴰ (membersOf t) ms
 members-same o t ms h tallies kept =
     members-permuted (membersOf t) ms kept (rw (rows-of-marked (t .held) (t .members)) (h .same)) tallies
@@ -200,8 +200,8 @@ places-once o t rows h p q first second same =
     ∙ ap (λ (x : Record). x .source) (shown-record t q second))
 
 agreed :
-    (o : Opening) (t : Table) (ms : Members) → Holds o t (rowsOf ms) → TalliesAgree t ms → Kept ms →
-    Sound o (rowsOf ms) → Agree o t ms
+    (o : Opening) (t : Table) (ms : Members) → Holds o t (recordsOf ms) → TalliesAgree t ms → Kept ms →
+    Sound o (recordsOf ms) → Agree o t ms
 unfolding memberCount
 agreed o t ms h tallies kept sound =
     let same : List·Permᴰ (membersOf t) ms = members-same o t ms h tallies kept in
@@ -210,10 +210,10 @@ agreed o t ms h tallies kept sound =
       same = same;
       unique = h .unique;
       own = λ row member. (sound row member .group, sound row member .media);
-      count = rows-count o t (rowsOf ms) h ∙ length-rows ms;
+      count = rows-count o t (recordsOf ms) h ∙ length-rows ms;
       places = place-row t ms (h .long) same;
       placed = row-place t ms (h .long) same;
-      once = places-once o t (rowsOf ms) h;
+      once = places-once o t (recordsOf ms) h;
     }
 
 -- ---- the letter's sentences
@@ -245,7 +245,7 @@ shown-member o taken h m = (row-place t ms long same m, shown)
 -- ---- demand 3
 
 pub reached-holds :
-    (o : Opening) (calls : List Call) (t : Table) (ms : Members) → Reached o calls t ms → Holds o t (rowsOf ms)
+    (o : Opening) (calls : List Call) (t : Table) (ms : Members) → Reached o calls t ms → Holds o t (recordsOf ms)
 reached-holds o calls t ms here =
     rw (here .table-is, here .members-are) (from-opened o (here .taken) calls .holds)
 
@@ -256,15 +256,15 @@ reached-tallies o calls t ms here =
     (from-opened o (here .taken) calls .tallies, kept-after-all o [] calls kept-none)
 
 pub demand3 : EveryList
-unfolding rowsOf
+unfolding recordsOf
 demand3 o calls t ms reached =
     let same : answersFrom (opened o .table) calls ≡ answers o [] calls =
     from-opened o (reached .taken) calls .answers-same in
-    let rows : rowsOf ms ≡ afterAll o [] calls =
-    ap rowsOf (reached .members-are) ∙ rows-after-all o [] calls in
-    let holds : Holds o t (rowsOf ms) = reached-holds o calls t ms reached in
+    let rows : recordsOf ms ≡ afterAll o [] calls =
+    ap recordsOf (reached .members-are) ∙ rows-after-all o [] calls in
+    let holds : Holds o t (recordsOf ms) = reached-holds o calls t ms reached in
     let tallies : _ = reached-tallies o calls t ms reached in
-    let sound : Sound o (rowsOf ms) = rw rows (sound-rows o calls (reached .ranges)) in
+    let sound : Sound o (recordsOf ms) = rw rows (sound-rows o calls (reached .ranges)) in
     record {
       opens = opened-holds o (reached .taken) .0;
       numbers = same;
@@ -276,8 +276,8 @@ demand3 o calls t ms reached =
           (letter-shown o (history calls (answers o [] calls)) (IsMember o) (IsShown o)
           (shown-member o (reached .taken))
           (letter o calls));
-      chosen = λ at. ap (λ (c : Choice). record { choice = c; table = t }) (chosen-same o t (rowsOf ms) holds at);
-      promised = promised-same o t (rowsOf ms) holds sound;
+      chosen = λ at. ap (λ (c : Choice). record { choice = c; table = t }) (chosen-same o t (recordsOf ms) holds at);
+      promised = promised-same o t (recordsOf ms) holds sound;
     }
 
 -- every opening that is taken and every list of calls in range reach a table and members
@@ -311,6 +311,6 @@ reached-further o calls t ms more here ranges =
 -- and these calls are answered as the register answers them
 pub reached-answers :
     (o : Opening) (calls : List Call) (t : Table) (ms : Members) (more : List Call) → Reached o calls t ms →
-    answersFrom t more ≡ answers o (rowsOf ms) more
+    answersFrom t more ≡ answers o (recordsOf ms) more
 reached-answers o calls t ms more here =
     alike-after o t ms more (reached-holds o calls t ms here) (reached-tallies o calls t ms here .0) .answers-same

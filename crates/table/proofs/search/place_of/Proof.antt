@@ -5,7 +5,7 @@ use lib.ListN.{drop}
 use native.Mathlib.Numerals.{add-one}
 use native.Mathlib.Omega.{arith}
 use borrow.Author.Needs.{needs}
-use Rattle.register.specs.Tallies.{rowsOf}
+use Rattle.register.specs.Tallies.{recordsOf}
 use Rattle.register.proofs.Tallies.{length-rows}
 use Rattle.choosing.proofs.Laws.Marked.{row-at}
 use Rattle.table.specs.Members.{placeOf}
@@ -15,7 +15,7 @@ use Rattle.table.proofs.search.place_of.Tie as tie
 
 abbrev Inv-loop : tie.InvT-loop
 Inv-loop held source members word₀ i₀ word i =
-    (i ≤ 64) × (i + placeOf source word (drop i (rowsOf members)) ≡ placeOf source held (rowsOf members))
+    (i ≤ 64) × (i + placeOf source word (drop i (recordsOf members)) ≡ placeOf source held (recordsOf members))
 
 abbrev μ-loop : tie.MeasureT-loop
 μ-loop held source members word₀ i₀ word i = 64 - i
@@ -38,7 +38,7 @@ returns c =
     let start = around .before in
     let loop = around .loop in
     let e : _ =
-    place-here (start .args .source) (loop .word) (rowsOf (start .args .t2)) (loop .i)
+    place-here (start .args .source) (loop .word) (recordsOf (start .args .t2)) (loop .i)
     (omega (arith, start .good, length-rows (start .args .t2)))
     (rw (row-at (start .args .t2) (loop .i)) (sym (c .before .is-held-by .ensures) ∙ c .if1 .taken)) in
     omega (arith, e, loop .inv .1)
@@ -55,11 +55,11 @@ loop-again c =
     let start = around .before in
     let loop = around .loop in
     let e : _ =
-    place-beyond (start .args .source) (loop .word) (rowsOf (start .args .t2)) (loop .i)
+    place-beyond (start .args .source) (loop .word) (recordsOf (start .args .t2)) (loop .i)
     (omega (arith, start .good, length-rows (start .args .t2)))
     (rw (row-at (start .args .t2) (loop .i)) (sym (c .before .is-held-by .ensures) ∙ c .if1 .left)) in
     let next : _ =
-    ap (λ (k : ℕ). placeOf (start .args .source) (loop .word / 2) (drop k (rowsOf (start .args .t2))))
+    ap (λ (k : ℕ). placeOf (start .args .source) (loop .word / 2) (drop k (recordsOf (start .args .t2))))
     (add-one (loop .i)) in
     (omega arith, omega (arith, e, next, loop .inv .1))
 
@@ -68,7 +68,7 @@ returns-2 c =
     let start = c .before .before in
     let loop = c .before .loop in
     let e : _ =
-    place-end (start .args .source) (loop .word) (rowsOf (start .args .t2)) (loop .i)
+    place-end (start .args .source) (loop .word) (recordsOf (start .args .t2)) (loop .i)
     (omega (arith, start .good, length-rows (start .args .t2))) in
     omega (arith, e, loop .inv .1)
 
