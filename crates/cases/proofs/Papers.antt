@@ -48,7 +48,7 @@ papers-hold = (
                         (refl, refl, refl),
                         (
                           (refl, refl, refl),
-                          ((refl, refl, refl), ((refl, refl, refl, refl), tt)),
+                          ((refl, refl), ((refl, refl, refl, refl, refl), ((refl, refl, refl, refl), tt))),
                         ),
                       ),
                     ),

@@ -18,6 +18,7 @@ use Rattle.register.specs.declared.Target.{Target}
 use Rattle.register.specs.Register.{Opening, Call, presents}
 use Rattle.register.specs.Choosing.{latenessOf}
 use Rattle.table.specs.declared.Table.{Table}
+use Rattle.table.specs.declared.Place.{Place}
 use Rattle.table.specs.Members.{placeAt}
 use Rattle.table.specs.Calls.{opened, withMember, answered}
 use Rattle.table.specs.Choose.{choiceOf}
@@ -58,14 +59,14 @@ reportFrom group port source received rtp presented =
     }
 
 -- of the table's group and from a port of its own
-abbrev pub member : (source received rtp presented : ℕ) → Record
-member source received rtp presented = reportFrom 42 (5000 + source) source received rtp presented
+abbrev pub reportBy : (source received rtp presented : ℕ) → Record
+reportBy source received rtp presented = reportFrom 42 (5000 + source) source received rtp presented
 
 abbrev pub ten : Record
-ten = member 10 (seconds 999) 8910000 0x03E78000
+ten = reportBy 10 (seconds 999) 8910000 0x03E78000
 
 abbrev pub twenty : Record
-twenty = member 20 (seconds 998) 8820000 0x03E6C000
+twenty = reportBy 20 (seconds 998) 8820000 0x03E6C000
 
 -- the table after two reports, one after the other
 abbrev pub holding : Record → Record → Table
@@ -147,7 +148,7 @@ P3 =
 
 -- P1 with presented 03E7C000 instead: a tie, 10 chosen
 abbrev pub tenLater : Record
-tenLater = member 10 (seconds 999) 8910000 0x03E7C000
+tenLater = reportBy 10 (seconds 999) 8910000 0x03E7C000
 
 abbrev pub P4 : Type 0
 P4 =
@@ -168,7 +169,7 @@ abbrev pub wrapped : Reading
 wrapped = record { ntp = seconds 1; rtp = 9000000 }
 
 abbrev pub beforeWrap : ℕ → Record
-beforeWrap presented = member 10 0xFFFFFFFF00000000 9000000 presented
+beforeWrap presented = reportBy 10 0xFFFFFFFF00000000 9000000 presented
 
 abbrev pub P6 : Type 0
 P6 =
@@ -183,7 +184,7 @@ P7 = numberAt wrapped (beforeWrap 0) ≡ 17
 
 -- P1 with another received time
 abbrev pub receivedAt : ℕ → Record
-receivedAt received = member 10 received 8910000 0x03E78000
+receivedAt received = reportBy 10 received 8910000 0x03E78000
 
 -- Received 970 s passes 15, one unit earlier is refused; received N passes, N plus one unit is refused. Passing means
 -- passing that one check: the other fields are P1's, and P1 is presented half a second before N, so that at received N
@@ -199,7 +200,7 @@ P8 =
 
 -- P1 with another RTP time
 abbrev pub rtpAt : ℕ → Record
-rtpAt rtp = member 10 (seconds 999) rtp 0x03E78000
+rtpAt rtp = reportBy 10 (seconds 999) rtp 0x03E78000
 
 -- RTP 3,600,000 passes 16; 3,599,999 and 9,000,001 are refused
 abbrev pub P9 : Type 0
@@ -211,7 +212,7 @@ P9 =
 
 -- P1 with another presented time
 abbrev pub presentedAt : ℕ → Record
-presentedAt presented = member 10 (seconds 999) 8910000 presented
+presentedAt presented = reportBy 10 (seconds 999) 8910000 presented
 
 -- received 999 s: presented 04050000 (30 s) passes, 04050001 gives 17
 abbrev pub P10 : Type 0
@@ -245,7 +246,7 @@ abbrev pub E3AllOnes : Type 0
 E3AllOnes =
     (delay 0xFFFFFFFFFFFFFFFF 0xFFFFFFFF ≡ 1)
     × (expanded 0xFFFFFFFFFFFFFFFF 0xFFFFFFFF ≡ 0)
-    × (numberAt wrapped (member 10 0xFFFFFFFFFFFFFFFF 9000000 0xFFFFFFFF) ≡ 17)
+    × (numberAt wrapped (reportBy 10 0xFFFFFFFFFFFFFFFF 9000000 0xFFFFFFFF) ≡ 17)
 
 -- P1's report from another port, of any group
 abbrev pub twinOf : ℕ → Record
@@ -260,38 +261,67 @@ twinCalls =
     ∷ Call.report ten reading
     ∷ []
 
--- what the first place shows as the tally
-abbrev pub firstTally : Table → ℕ
-firstTally t = placeAt t 0 .member .tally
+-- the table that these calls leave
+abbrev pub tallied : Table
+tallied = tableFrom (opened opening .table) twinCalls
+
+-- a place that shows a report and a tally
+abbrev pub placeWith : Record → ℕ → Place
+placeWith x tally = record { held = 1; member = record { «record» = x; tally = tally } }
 
 -- document 02, E5: behind P1's report, that of its twin and its farewell are refused with 14, and one of another group
--- with 13; a tally of 2, also behind P1's own next report. It leaves and joins anew: 0.
+-- with 13; a tally of 2, also behind P1's own next report
 abbrev pub E5Tallied : Type 0
 E5Tallied =
     (answersFrom (opened opening .table) twinCalls ≡ 0 ∷ 14 ∷ 14 ∷ 13 ∷ 0 ∷ [])
-    × (firstTally (tableFrom (opened opening .table) twinCalls) ≡ 2)
-    × (firstTally
-    (tableFrom (tableFrom (opened opening .table) twinCalls)
-    (Call.farewell 10 (ten .origin) ∷ Call.report ten reading ∷ [])) ≡ 0)
+    × (placeAt tallied 0 ≡ placeWith ten 2)
+
+-- 30 s later, when P1's report is not fresh, and a report of then
+abbrev pub later : Reading
+later = record { ntp = seconds 1030; rtp = 11700000 }
+
+abbrev pub reportLater : ℕ → Record
+reportLater source = reportBy source (seconds 1029) 11610000 0x04058000
+
+-- the member leaves by its farewell and comes back to its place; it leaves by a sweep and comes back to another place
+abbrev pub farewellCalls : List Call
+farewellCalls = Call.farewell 10 (ten .origin) ∷ Call.report ten reading ∷ []
+
+abbrev pub sweepCalls : List Call
+sweepCalls = Call.sweep later ∷ Call.report (reportLater 20) later ∷ Call.report (reportLater 10) later ∷ []
+
+-- document 02, E5: the tally goes when the member goes, and whoever joins anew starts at 0
+abbrev pub E5Rejoined : Type 0
+E5Rejoined =
+    (answersFrom tallied farewellCalls ≡ 0 ∷ 0 ∷ [])
+    × (placeAt (tableFrom tallied farewellCalls) 0 ≡ placeWith ten 0)
+    × (answersFrom tallied sweepCalls ≡ 0 ∷ 0 ∷ 0 ∷ [])
+    × (placeAt (tableFrom tallied sweepCalls) 0 ≡ placeWith (reportLater 20) 0)
+    × (placeAt (tableFrom tallied sweepCalls) 1 ≡ placeWith (reportLater 10) 0)
 
 -- a table value with P1's report at the first place and this tally
-abbrev pub withTally : ℕ → Table
-withTally n =
+abbrev pub tenTallied : ℕ → Table
+tenTallied tally =
     withMember (tableFrom (opened opening .table) (Call.report ten reading ∷ [])) 0
-    (record { «record» = ten; tally = n })
+    (record { «record» = ten; tally = tally })
+
+-- what its first place shows after a call
+abbrev pub firstAfter : ℕ → Call → Place
+firstAfter tally call = placeAt (answered (tenTallied tally) call .table) 0
 
 -- document 02, E5: the tally stops at 4,294,967,295, by report and by farewell
 abbrev pub E5Limit : Type 0
 E5Limit =
-    (firstTally (answered (withTally 4294967294) (Call.report (twinOf 42) reading) .table) ≡ 4294967295)
-    × (firstTally (answered (withTally 4294967295) (Call.report (twinOf 42) reading) .table) ≡ 4294967295)
-    × (firstTally (answered (withTally 4294967294) (Call.farewell 10 (originAt 6000)) .table) ≡ 4294967295)
-    × (firstTally (answered (withTally 4294967295) (Call.farewell 10 (originAt 6000)) .table) ≡ 4294967295)
+    (firstAfter 4294967294 (Call.report (twinOf 42) reading) ≡ placeWith ten 4294967295)
+    × (firstAfter 4294967295 (Call.report (twinOf 42) reading) ≡ placeWith ten 4294967295)
+    × (firstAfter 4294967294 (Call.farewell 10 (originAt 6000)) ≡ placeWith ten 4294967295)
+    × (firstAfter 4294967295 (Call.farewell 10 (originAt 6000)) ≡ placeWith ten 4294967295)
 
 -- all of them
 unfoldable pub papers : List (Type 0)
 papers =
-    P1 ∷ P2 ∷ P3 ∷ P4 ∷ P5 ∷ P6 ∷ P7 ∷ P8 ∷ P9 ∷ P10 ∷ E3Wired ∷ E3Chosen ∷ E3AllOnes ∷ E5Tallied ∷ E5Limit ∷ []
+    P1 ∷ P2 ∷ P3 ∷ P4 ∷ P5 ∷ P6 ∷ P7 ∷ P8 ∷ P9 ∷ P10 ∷ E3Wired ∷ E3Chosen ∷ E3AllOnes
+    ∷ E5Tallied ∷ E5Rejoined ∷ E5Limit ∷ []
 
 -- every statement of a list is true
 unfoldable pub AllHold : List (Type 0) → Type 0

@@ -65,24 +65,26 @@ pub(crate) const PLACE_FREE: usize = 29;
 
 pub(crate) const TALLY: usize = 30;
 
-pub(crate) const UNCHANGED: usize = 31;
+pub(crate) const TALLY_NONE: usize = 31;
 
-pub(crate) const UNCHANGED_BUT: usize = 32;
+pub(crate) const UNCHANGED: usize = 32;
 
-pub(crate) const WRITE_REPORT: usize = 33;
+pub(crate) const UNCHANGED_BUT: usize = 33;
 
-pub(crate) const WRITE_SETTINGS: usize = 34;
+pub(crate) const WRITE_REPORT: usize = 34;
 
-pub(crate) const READ_LINE: usize = 35;
+pub(crate) const WRITE_SETTINGS: usize = 35;
 
-pub(crate) const READ_LINE_REFUSED: usize = 36;
+pub(crate) const READ_LINE: usize = 36;
 
-pub(crate) const WRITE_LINE: usize = 37;
+pub(crate) const READ_LINE_REFUSED: usize = 37;
 
-pub(crate) const WRITE_LINE_REFUSED: usize = 38;
+pub(crate) const WRITE_LINE: usize = 38;
+
+pub(crate) const WRITE_LINE_REFUSED: usize = 39;
 
 // The form of a line that is no step, and of a step that has none of the forms.
-pub(crate) const PROSE: usize = 39;
+pub(crate) const PROSE: usize = 40;
 
 // The step at a place, with the answer that it expects. In a form # is a number, @ a time, % an origin, ? a report's
 // presented field, ! a target's presented time, & answers of calls, * words of hex, " a text; all else stands for
@@ -120,6 +122,7 @@ pub(crate) fn matched(s: &[u8], at: usize) -> Line {
           place # = # %\n\
           place # = free\n\
           tally # = #\n\
+          tally # = none\n\
           unchanged\n\
           unchanged but tally # = #\n\
           write report =*\n\
@@ -167,6 +170,7 @@ pub(crate) fn print_came(line: Line, s: &[u8]) {
           \x20 place $n0: source $n1 of $o0\n\
           \x20 place $n0: free\n\
           \x20 place $n0: tally $n1, calls refused with 14 under its member's number since it joined\n\
+          \x20 place $n0: no member, and no tally\n\
           \x20   members $u0, target $u1\n\
           \x20   members $u2, target $u3, but the tally of place $n0: $n1\n\
           \x20 last report as written: $b2\n\

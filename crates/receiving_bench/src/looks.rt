@@ -10,6 +10,7 @@ use crate::forms::MEMBERS;
 use crate::forms::PLACE;
 use crate::forms::PLACE_FREE;
 use crate::forms::TALLY;
+use crate::forms::TALLY_NONE;
 use crate::forms::UNCHANGED;
 use crate::forms::WRITE_REPORT;
 use crate::lines::Line;
@@ -85,6 +86,16 @@ fn tally_at(table: Table, place: usize) -> u64 {
     let shown = table.member_at(place);
     let member = shown.member;
     member.tally as u64
+}
+
+// The tally at a place, if a member is there.
+fn tally_line(table: Table, place: u64, origin: Origin) -> Line {
+    let shown = table.member_at(place as usize);
+    if shown.held == 0 {
+        return numbers_line(TALLY_NONE, place, 0, 0, origin);
+    }
+    let member = shown.member;
+    numbers_line(TALLY, place, member.tally as u64, 0, origin)
 }
 
 // All that a place holds, but for the tally at one place. Where it is free, that is zeros.
@@ -200,7 +211,7 @@ pub(crate) fn look(table: Table, line: Line, scene: Scene, record: Record, s: &[
     match form {
         MEMBERS => numbers_line(form, table.count_members() as u64, 0, 0, origin),
         PLACE | PLACE_FREE => place_line(table, place, origin),
-        TALLY => numbers_line(form, place, tally_at(table, place as usize), 0, origin),
+        TALLY | TALLY_NONE => tally_line(table, place, origin),
         _ => target_step(line, scene, record, choice_at(table, scene.reading), s),
     }
 }

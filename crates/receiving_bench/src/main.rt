@@ -28,7 +28,7 @@
 //   delay = TIME                                 of the target
 //   members = COUNT
 //   place INDEX = SOURCE ORIGIN | free
-//   tally INDEX = COUNT                          of the member at that place, 0 where it is free
+//   tally INDEX = COUNT | none                   of the member at that place
 //   unchanged                                    members, their tallies and the target are as before the last call
 //   unchanged but tally INDEX = COUNT            the same, but for the tally at that place, which is COUNT
 //   write report = HEX..                         the last report, as the writer writes it
