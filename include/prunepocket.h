@@ -277,8 +277,10 @@ struct prunepocket_record {
  * A member: the record that it stands on, and its tally. The tally says how many
  * times the member's source number was refused with 14, by prunepocket_report,
  * prunepocket_farewell or in a datagram, since the member last joined, and stops
- * at PRUNEPOCKET_TALLY_LIMIT: a tally above 0 tells that the source number has a
- * twin. It starts at 0 where the member joins, and goes when the member goes, by
+ * at PRUNEPOCKET_TALLY_LIMIT. Above 0, calls under the number came from another
+ * address or port while the member held it: of a twin, or of the member's own
+ * unit after it moved.
+ * The tally starts at 0 where the member joins, and goes when the member goes, by
  * farewell or sweep: one that joins anew starts at 0 again. No other refusal
  * counts, whoever gets it, and neither the member's own reports nor a sweep that
  * it outlasts changes the tally. Choosing does not look at it.
@@ -333,7 +335,7 @@ struct prunepocket_datagram_answered {
     uint64_t number;                /* The refusal's number, or 0 that there is none. */
     uint64_t place;                 /* The byte of the datagram at which the refusal was met, or 0. */
     uint64_t count;                 /* How many numbers were put into the list, one for each call; 0 after a refusal. */
-    struct prunepocket_table table; /* The table afterwards: after a refusal equal to the one passed. */
+    struct prunepocket_table table; /* The table afterwards: after a refusal of the datagram equal to the one passed. */
 };
 
 /* What stands at a place. */
@@ -404,6 +406,8 @@ struct prunepocket_answered prunepocket_sweep(struct prunepocket_table table,
  * reduced_size is as for the calls that read.
  * The number that each call gets, 0 or 13 to 19, goes to the front of answers,
  * also in the order of items; numbers of the list behind them are as before.
+ * Each 14 among them has raised the holder's tally. The datagram's own number is
+ * 0 whatever its calls got.
  * As many numbers as the datagram has items are always enough, and so are 512.
  * Refusals: 1 to 7 of the datagram; then 10, with place 0, where answers_length
  * is below the number of reports and farewells. Table and list are then as

@@ -7,8 +7,8 @@
 --   of `origin` Origins, for the plain register alone;
 --   of `register` the records (src/lib.rt); Letter: members, tallies, twins and what each answer means; Choosing and
 --   Promise: what is chosen and what is promised of it; of Register `Opening`, `Call` and what Choosing and Promise
---   use; of Tallies `Members`, `recordsOf` and `isUnder`. The rest of Register is the papers' plain register, believed for
---   the sentence that answers and members are its own; the rest of Tallies is held to Letter.
+--   use; of Tallies `Members` and `recordsOf`. The rest of Register is the papers' plain register, believed for the
+--   sentence that answers and members are its own; the rest of Tallies is held to Letter.
 -- No belief needs what the contracts tie to code: `opened`, `answered`, `chosenOf`, `placeAt` and `memberCount` stand
 -- here as what `Table::open`, `report`, `farewell`, `sweep`, `choose`, `member_at` and `count_members` answer, whatever
 -- that is; nor what lies below them (Members, Calls and Choose here, all of `choosing` and `places`). `opening` and

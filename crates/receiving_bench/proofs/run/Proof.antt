@@ -6,11 +6,11 @@ use Rattle.receiving_bench.proofs.run.Statement.{statement}
 use Rattle.receiving_bench.proofs.run.Tie as tie
 
 abbrev Inv-loop : tie.InvT-loop
-Inv-loop s table₀ earlier₀ scene₀ record₀ tally₀ at₀ number₀ number-end table earlier scene «record» tally at number =
+Inv-loop s table₀ earlier₀ scene₀ record₀ score₀ at₀ number₀ number-end table earlier scene «record» score at number =
     Unit
 
 abbrev μ-loop : tie.MeasureT-loop
-μ-loop s table₀ earlier₀ scene₀ record₀ tally₀ at₀ number₀ number-end table earlier scene «record» tally at number =
+μ-loop s table₀ earlier₀ scene₀ record₀ score₀ at₀ number₀ number-end table earlier scene «record» score at number =
     number-end - number
 
 usual-table-requires : tie.Need-usual-table-requires Inv-loop μ-loop
