@@ -22,20 +22,20 @@ atRate rate = record { group = 0; media = 0; rate = rate }
 
 -- the places whose member is fresh
 abbrev pub freshWord : ℕ → Reading → ℕ → Rows → ℕ
-freshWord rate at held members = filterWord (freshAt (atRate rate) at) held members
+freshWord rate at held records = filterWord (freshAt (atRate rate) at) held records
 
 -- the places whose member is fresh and reports presentation
 abbrev pub presentingWord : ℕ → Reading → ℕ → Rows → ℕ
-presentingWord rate at held members = filterWord (λ m. freshAt (atRate rate) at m && presents m) held members
+presentingWord rate at held records = filterWord (λ m. freshAt (atRate rate) at m && presents m) held records
 
 -- both words
 abbrev pub marksAt : ℕ → Reading → ℕ → Rows → Marks
-marksAt rate at held members =
-    record { fresh = freshWord rate at held members; presenting = presentingWord rate at held members }
+marksAt rate at held records =
+    record { fresh = freshWord rate at held records; presenting = presentingWord rate at held records }
 
 -- arrival mode: no fresh member reports presentation
 abbrev pub arrives : ℕ → Reading → ℕ → Rows → Bool
-arrives rate at held members = eqb (presentingWord rate at held members) 0
+arrives rate at held records = eqb (presentingWord rate at held records) 0
 
 -- the members that report presentation count; where none does, all that are fresh
 abbrev pub countedIn : Marks → ℕ
@@ -43,7 +43,7 @@ countedIn marks = cond (eqb (marks .presenting) 0) (marks .fresh) (marks .presen
 
 -- the places whose member is counted
 abbrev pub countedWord : ℕ → Reading → ℕ → Rows → ℕ
-countedWord rate at held members = countedIn (marksAt rate at held members)
+countedWord rate at held records = countedIn (marksAt rate at held records)
 
 -- the latest row, or 20 without rows
 unfoldable pub latestTarget : (Record → ℤ) → ℕ → Rows → Choice
@@ -52,8 +52,8 @@ latestTarget late count (row ∷ rows) = targetOf (latest late row rows) count
 
 -- the latest of the members that a word marks, all of them counted
 abbrev pub choiceIn : ℕ → Reading → ℕ → Rows → Choice
-choiceIn rate at word members = latestTarget (latenessOf (atRate rate) at) (heldIn 64 word) (markedAt word members)
+choiceIn rate at word records = latestTarget (latenessOf (atRate rate) at) (heldIn 64 word) (markedAt word records)
 
 -- the choice at a rate and a reading
 unfoldable pub choiceAmong : ℕ → Reading → ℕ → Rows → Choice
-choiceAmong rate at held members = choiceIn rate at (countedWord rate at held members) members
+choiceAmong rate at held records = choiceIn rate at (countedWord rate at held records) records

@@ -62,13 +62,13 @@ latestNext word a b = cond (isFree word || staysLatest a b) a b
 
 -- the choice where the row at a place is the latest so far, no row at place 64, and rows are to come
 abbrev pub latestTargetFrom : (Record → ℤ) → ℕ → Rows → ℕ → Rows → Choice
-latestTargetFrom late count members place rows =
-    cond (ltb place 64) (targetOf (latest late (getD members place nowhere) rows) count)
+latestTargetFrom late count records place rows =
+    cond (ltb place 64) (targetOf (latest late (getD records place nowhere) rows) count)
     (latestTarget late count rows)
 
 -- a place has the latest of the members that a word marks: whatever the count, its choice is that of all of them
 abbrev pub IsLatest : ℕ → Reading → ℕ → Rows → ℕ → Type 0
-IsLatest rate at word members place =
+IsLatest rate at word records place =
     (count : ℕ) →
-    latestTargetFrom (biasedLate rate at) count members place []
-    ≡ latestTarget (biasedLate rate at) count (markedAt word members)
+    latestTargetFrom (biasedLate rate at) count records place []
+    ≡ latestTarget (biasedLate rate at) count (markedAt word records)
