@@ -135,7 +135,7 @@ static table_t opened(void)
     return open_table(GROUP, MEDIA, RATE);
 }
 
-/* The place of a number's member, or PRUNEPOCKET_PLACES where it has none. */
+/* The lowest place at which a number is held, or PRUNEPOCKET_PLACES where it is not. */
 static size_t place_of(const table_t *table, uint32_t source)
 {
     size_t place = 0;
@@ -2204,66 +2204,32 @@ static void check_step_0(const struct prunepocket_report_fields *fields, uint64_
     }
 }
 
-/* The first place whose tallies differ, or PRUNEPOCKET_PLACES. */
-static size_t differing_tally(const table_t *a, const table_t *b)
+/* A call under a number got 14. Where a random table holds it twice, the lower place is the number's. */
+static void count_14(const table_t *table, uint32_t source)
 {
-    size_t place = 0;
+    size_t holder = place_of(table, source);
 
-    while (place < PRUNEPOCKET_PLACES && a->members[place].tally == b->members[place].tally)
-        place++;
-    return place;
-}
-
-/* Whether some member of a number has its tally at the limit. */
-static int has_tally_at_limit(const table_t *table, uint32_t source)
-{
-    for (size_t place = 0; place < PRUNEPOCKET_PLACES; place++) {
-        if (is_held(table->held, place) && table->members[place].record.source == source &&
-            table->members[place].tally == LIMIT)
-            return 1;
-    }
-    return 0;
-}
-
-/*
- * After 14: one more in the tally of a member of this number, which a random table may have twice.
- * Where it is at the limit, and everywhere else, the table is as before.
- */
-static void check_raised(table_t after, const table_t *table, uint32_t source)
-{
-    size_t place = differing_tally(&after, table);
-    int at_limit = place == PRUNEPOCKET_PLACES;
-    uint32_t before;
-
-    raised[at_limit]++;
-    if (at_limit) {
-        check_true("14: a tally at the limit", has_tally_at_limit(table, source));
-    } else {
-        before = table->members[place].tally;
-        check_true("14: a member of the number", is_held(table->held, place));
-        check_equal("14: its number", table->members[place].record.source, source);
-        check_true("14: its tally below the limit", before < LIMIT);
-        check_equal("14: its tally", after.members[place].tally, before + 1);
-        after.members[place].tally = before;
-    }
-    check_true("14: all else as before", same_table(&after, table));
+    check_true("14: the number is held", holder < PRUNEPOCKET_PLACES);
+    if (holder < PRUNEPOCKET_PLACES)
+        raised[table->members[holder].tally == LIMIT]++;
 }
 
 static void random_report(table_t table, record_t record, reading_t reading)
 {
     answered_t answered = prunepocket_report(table, record, reading);
+    size_t holder = place_of(&table, record.source);
 
     check_number("report: number", answered.number, 13, 18);
     check_step_0(&record.report, answered.number);
-    if (answered.number == PRUNEPOCKET_OTHER_ORIGIN) {
-        check_raised(answered.table, &table, record.source);
-    } else if (answered.number >= 13 && answered.number <= 17) {
-        check_true("report: the table as before", same_table(&answered.table, &table));
-    } else if (place_of(&table, record.source) < PRUNEPOCKET_PLACES) {
+    if (answered.number == PRUNEPOCKET_OTHER_ORIGIN)
+        count_14(&table, record.source);
+    if (answered.number >= 13 && answered.number <= 17) {
+        check_refused("report: the table after a refusal", &answered, table, record.source);
+    } else if (holder < PRUNEPOCKET_PLACES) {
         check_equal("member: number", answered.number, PRUNEPOCKET_ACCEPTED);
         check_equal("member: places held", answered.table.held, table.held);
-        check_equal("member: tallies", differing_tally(&answered.table, &table),
-                    PRUNEPOCKET_PLACES);
+        table.members[holder].record = record;
+        check_true("member: the table", same_table(&answered.table, &table));
     } else {
         judged_new[lowest_free(table.held)]++;
         check_new_member(&answered, table, record);
@@ -2288,8 +2254,10 @@ static void random_farewell(table_t table, uint32_t source, origin_t origin)
     check_number("farewell: number", answered.number, 14, 19);
     check_true("farewell: not 15 to 18", answered.number < 15 || answered.number > 18);
     check_equal("farewell: removed", count_held(removed), answered.number == 0);
-    if (answered.number == PRUNEPOCKET_OTHER_ORIGIN) {
-        check_raised(answered.table, &table, source);
+    if (answered.number == PRUNEPOCKET_OTHER_ORIGIN)
+        count_14(&table, source);
+    if (answered.number != PRUNEPOCKET_ACCEPTED) {
+        check_refused("farewell: the table after a refusal", &answered, table, source);
     } else {
         put_back(&answered.table, &table, removed);
         check_true("farewell: all else as before", same_table(&answered.table, &table));
