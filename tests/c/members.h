@@ -1,6 +1,6 @@
 /*
- * What the C tests of the member table share: short names for its structs, equality with padding
- * aside, and lateness.
+ * What the C tests of the member table share: short names for its structs, and equality with padding
+ * aside.
  */
 #ifndef MEMBERS_H
 #define MEMBERS_H
@@ -52,16 +52,6 @@ static void check_target(target_t got, target_t expected)
     check_equal("target: RTP", got.rtp, expected.rtp);
     check_equal("target: presented", got.presented, expected.presented);
     check_equal("target: counted", got.counted, expected.counted);
-}
-
-/* The lateness of a target's three times, in units of 1/(rate * 2^32) s. */
-static int64_t lateness(target_t target, uint32_t rate, reading_t reading)
-{
-    uint64_t delay = target.presented == 0 ? 0 : target.presented - target.received;
-    uint64_t ntp_age = reading.ntp - target.received;
-    uint32_t rtp_age = reading.rtp - target.rtp;
-
-    return (int64_t)rate * ((int64_t)delay - (int64_t)ntp_age) + (int64_t)SECONDS(rtp_age);
 }
 
 #endif

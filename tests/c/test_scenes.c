@@ -2,6 +2,7 @@
  * Runs the scenes of the receiving bench's text on the archive, and holds every answer against the
  * text's own. tests/README.md has the form of the text. A line not understood ends the test.
  */
+#include "lateness.h"
 #include "members.h"
 
 #define TEXT "crates/receiving_bench/stdin"

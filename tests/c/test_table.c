@@ -1,92 +1,18 @@
 /*
  * Calls every function of the member table in prunepocket.h. Holds each struct of C to the bytes
- * that the archive writes, answers to what documents 01 and 02 (E3, E4, E5) say at the limits, and
- * each table after a refusal to the one before, but for the holder's tally after 14, field by field,
- * padding aside. The table's own fields are looked at here alone: a host does not. The papers' cases
- * are in test_scenes.c.
+ * that the archive writes, answers to what documents 01 and 02 (E3, E4) say at the limits, and each
+ * table after a refusal to the one before, but for the holder's tally after 14, field by field,
+ * padding aside. The table's own fields are looked at here and in test_tallies.c: a host does not.
+ * The papers' cases are in test_scenes.c.
  */
-#include "members.h"
-
-#define CASE(text) (line = __LINE__, name = (text))
-
-#define LENGTH(array) (sizeof(array) / sizeof *(array))
-
-/* ---- Values ---------------------------------------------------------------------------------- */
-
-#define GROUP 42
-#define MEDIA 7
-#define RATE 90000
-
-/* The short time of whole seconds. */
-#define SHORT_SECONDS(n) ((uint32_t)(n) << 16)
-
-/* N and R of the cases. */
-static const reading_t now = {SECONDS(1000), 9000000};
-
-/* The unit at 192.0.2.host. */
-static origin_t unit(uint8_t host)
-{
-    return (origin_t){{0, 0, 0, 0, 0, 0, 0, 0, 0, 0, 0xFF, 0xFF, 192, 0, 2, host}, 5005};
-}
-
-static record_t record_10(void)
-{
-    return (record_t){10, unit(10), {SECONDS(999), GROUP, MEDIA, 8910000, 0x03E78000, 33, 1}};
-}
-
-static record_t record_20(void)
-{
-    return (record_t){20, unit(20), {SECONDS(998), GROUP, MEDIA, 8820000, 0x03E6C000, 33, 1}};
-}
-
-/* A report of some source without presentation, received at N and R of the cases. */
-static record_t arrival(uint32_t source)
-{
-    return (record_t){source, unit(30), {SECONDS(1000), GROUP, MEDIA, 9000000, 0, 33, 0}};
-}
-
-static uint64_t next_random(void)
-{
-    static uint64_t state = UINT64_C(0x9E3779B97F4A7C15);
-
-    state ^= state << 13;
-    state ^= state >> 7;
-    state ^= state << 17;
-    return state;
-}
+#include "lateness.h"
+#include "tables.h"
 
 /* ---- The word of places held ----------------------------------------------------------------- */
-
-/* The first place is the lowest bit. */
-static int is_held(uint64_t word, size_t place)
-{
-    return (word >> place & 1) == 1;
-}
 
 static uint64_t with_place(uint64_t word, size_t place)
 {
     return word | UINT64_C(1) << place;
-}
-
-/* The lowest free place, or PRUNEPOCKET_PLACES where none is free. */
-static size_t lowest_free(uint64_t word)
-{
-    size_t place = 0;
-
-    while (place < PRUNEPOCKET_PLACES && is_held(word, place))
-        place++;
-    return place;
-}
-
-static unsigned count_held(uint64_t word)
-{
-    unsigned count = 0;
-
-    for (size_t place = 0; place < PRUNEPOCKET_PLACES; place++) {
-        if (is_held(word, place))
-            count++;
-    }
-    return count;
 }
 
 /* All places below the lowest free one are held, and above it those that another word holds. */
@@ -101,143 +27,7 @@ static uint64_t word_with(size_t lowest, uint64_t above)
     return word;
 }
 
-/* ---- Equality, padding aside ----------------------------------------------------------------- */
-
-static int same_member(const member_t *a, const member_t *b)
-{
-    return same_record(&a->record, &b->record) && SAME(tally);
-}
-
-static int same_table(const table_t *a, const table_t *b)
-{
-    for (size_t i = 0; i < PRUNEPOCKET_PLACES; i++) {
-        if (!same_member(&a->members[i], &b->members[i]))
-            return 0;
-    }
-    return SAME(group) && SAME(media) && SAME(rate) && SAME(held);
-}
-
 /* ---- One call -------------------------------------------------------------------------------- */
-
-/* Opening is accepted, and the table is without members. */
-static table_t open_table(uint32_t group, uint32_t media, uint32_t rate)
-{
-    answered_t answered = prunepocket_open(group, media, rate);
-
-    check_equal("open: number", answered.number, PRUNEPOCKET_ACCEPTED);
-    check_equal("open: members", prunepocket_count_members(answered.table), 0);
-    return answered.table;
-}
-
-/* The table of the cases. */
-static table_t opened(void)
-{
-    return open_table(GROUP, MEDIA, RATE);
-}
-
-/* The lowest place at which a number is held, or PRUNEPOCKET_PLACES where it is not. */
-static size_t place_of(const table_t *table, uint32_t source)
-{
-    size_t place = 0;
-
-    while (place < PRUNEPOCKET_PLACES &&
-           !(is_held(table->held, place) && table->members[place].record.source == source))
-        place++;
-    return place;
-}
-
-static uint32_t one_more(uint32_t tally)
-{
-    return tally == PRUNEPOCKET_TALLY_LIMIT ? tally : tally + 1;
-}
-
-/* Refused under a number: the table is as before, but that 14 raises the tally of its holder. */
-static void check_refused(const char *what, const answered_t *answered, table_t table,
-                          uint32_t source)
-{
-    size_t holder = place_of(&table, source);
-
-    if (answered->number == PRUNEPOCKET_OTHER_ORIGIN && holder < PRUNEPOCKET_PLACES)
-        table.members[holder].tally = one_more(table.members[holder].tally);
-    check_true(what, same_table(&answered->table, &table));
-}
-
-/* The table after a report, which gets this number. */
-static table_t report(table_t table, record_t record, reading_t reading, uint64_t number)
-{
-    answered_t answered = prunepocket_report(table, record, reading);
-
-    check_equal("report: number", answered.number, number);
-    if (number != PRUNEPOCKET_ACCEPTED)
-        check_refused("report: the table after a refusal", &answered, table, record.source);
-    return answered.table;
-}
-
-/* The table after a farewell, which gets this number. */
-static table_t farewell(table_t table, uint32_t source, origin_t origin, uint64_t number)
-{
-    answered_t answered = prunepocket_farewell(table, source, origin);
-    uint32_t before = prunepocket_count_members(table);
-
-    check_equal("farewell: number", answered.number, number);
-    if (number != PRUNEPOCKET_ACCEPTED)
-        check_refused("farewell: the table after a refusal", &answered, table, source);
-    else
-        check_equal("farewell: members", prunepocket_count_members(answered.table), before - 1);
-    return answered.table;
-}
-
-/* The table after a sweep, which leaves so many members. */
-static table_t sweep(table_t table, reading_t reading, uint32_t members)
-{
-    answered_t answered = prunepocket_sweep(table, reading);
-
-    check_equal("sweep: number", answered.number, PRUNEPOCKET_ACCEPTED);
-    check_equal("sweep: members", prunepocket_count_members(answered.table), members);
-    return answered.table;
-}
-
-/* A place is held by this member, or where that is null, not held: then all of it is zeros. */
-static void check_at(const table_t *table, size_t place, const member_t *member)
-{
-    static const member_t zeros;
-    const member_t *expected = member != NULL ? member : &zeros;
-    place_t at = prunepocket_member_at(*table, place);
-
-    check_equal("member_at: held", at.held, member != NULL);
-    check_true("member_at: record", same_record(&at.member.record, &expected->record));
-    check_equal("member_at: tally", at.member.tally, expected->tally);
-}
-
-/* A member of this tally stands on the record. */
-static void check_tallied(table_t table, size_t place, record_t record, uint32_t tally)
-{
-    check_at(&table, place, &(member_t){record, tally});
-}
-
-/* No twin was met. */
-static void check_member(table_t table, size_t place, record_t record)
-{
-    check_tallied(table, place, record, 0);
-}
-
-static void check_vacant(table_t table, size_t place)
-{
-    check_at(&table, place, NULL);
-}
-
-/* The calls show one table as another has it. */
-static void check_place(const table_t *table, size_t place, const table_t *expected)
-{
-    check_at(table, place, is_held(expected->held, place) ? &expected->members[place] : NULL);
-}
-
-static void check_places(const table_t *table, const table_t *expected)
-{
-    check_equal("members", prunepocket_count_members(*table), count_held(expected->held));
-    for (size_t place = 0; place < PRUNEPOCKET_PLACES; place++)
-        check_place(table, place, expected);
-}
 
 /*
  * What a new member's report got that meets none of 13 to 17: the lowest free place, with a tally of
@@ -258,16 +48,6 @@ static void check_new_member(const answered_t *answered, table_t table, record_t
     check_true("new member: the table", same_table(&answered->table, &table));
 }
 
-/* The target, and the table is as before. */
-static target_t choose(table_t table, reading_t reading)
-{
-    followed_t followed = prunepocket_choose(table, reading);
-
-    check_equal("choose: number", followed.number, PRUNEPOCKET_ACCEPTED);
-    check_true("choose: the table as before", same_table(&followed.table, &table));
-    return followed.target;
-}
-
 static void check_none_fresh(table_t table, reading_t reading)
 {
     static const target_t zeros;
@@ -276,15 +56,6 @@ static void check_none_fresh(table_t table, reading_t reading)
     check_equal("choose: number", followed.number, PRUNEPOCKET_NONE_COUNTED);
     check_true("choose: target of zeros", same_target(&followed.target, &zeros));
     check_true("choose: the table as before", same_table(&followed.table, &table));
-}
-
-/* Who is chosen, and how many are counted. */
-static void check_chosen(table_t table, reading_t reading, uint32_t source, uint32_t counted)
-{
-    target_t target = choose(table, reading);
-
-    check_equal("chosen", target.source, source);
-    check_equal("counted", target.counted, counted);
 }
 
 static void check_lateness(target_t target, uint32_t rate, reading_t reading, int64_t expected)
@@ -383,17 +154,6 @@ struct part {
     size_t size;
     uint64_t value;
 };
-
-/* The least significant byte comes first on the archive's machine. */
-static uint64_t number_at(const void *memory, size_t offset, size_t size)
-{
-    const uint8_t *bytes = memory;
-    uint64_t value = 0;
-
-    for (size_t i = size; i > 0; i--)
-        value = value << 8 | bytes[offset + i - 1];
-    return value;
-}
 
 /* A struct within memory, from its start, has these parts. */
 static void check_parts(const char *what, const void *memory, size_t start,
@@ -536,32 +296,6 @@ static void test_followed_bytes(void)
 
 /* ---- Twins ----------------------------------------------------------------------------------- */
 
-/* The table with one report, accepted. */
-static table_t with_one(record_t record)
-{
-    return report(opened(), record, now, PRUNEPOCKET_ACCEPTED);
-}
-
-static table_t with_two(record_t first, record_t second)
-{
-    return report(with_one(first), second, now, PRUNEPOCKET_ACCEPTED);
-}
-
-/* The target where both are held. */
-static const target_t target_20 = {
-    20, GROUP, MEDIA, SECONDS(998), 8820000, UINT64_C(0x3E6C0000000), 2,
-};
-
-/* A report on which source 10 would be chosen, from another origin. */
-static record_t twin_at(origin_t origin)
-{
-    record_t twin = record_10();
-
-    twin.origin = origin;
-    twin.report.presented = 0x03E7F000;
-    return twin;
-}
-
 /* The twin's report and farewell get 14, the target is unchanged, and the holder's tally is 2. */
 static void check_twin(table_t table, origin_t origin)
 {
@@ -612,18 +346,6 @@ static void test_two_numbers(void)
 }
 
 /* ---- Places ---------------------------------------------------------------------------------- */
-
-/* Sources 100 to 163, at the places 0 to 63. */
-static table_t full_table(void)
-{
-    table_t table = opened();
-
-    for (uint32_t i = 0; i < PRUNEPOCKET_PLACES; i++) {
-        table = report(table, arrival(100 + i), now, PRUNEPOCKET_ACCEPTED);
-        check_equal("members", prunepocket_count_members(table), i + 1);
-    }
-    return table;
-}
 
 static void test_full_table(void)
 {
@@ -847,8 +569,7 @@ static void test_none_fresh(void)
 
 /* ---- Whole datagrams ------------------------------------------------------------------------- */
 
-/* An empty RR, the report of 10, the settings, the report of 20, and a BYE of 20 and 30. */
-#define RR_BYTES 8
+/* The RR, the report of 10, the settings, the report of 20, and a BYE of 20 and 30. */
 #define SETTINGS_PLACE (RR_BYTES + PRUNEPOCKET_REPORT_BYTES)
 #define BYE_PLACE (SETTINGS_PLACE + PRUNEPOCKET_SETTINGS_BYTES + PRUNEPOCKET_REPORT_BYTES)
 #define DATAGRAM_BYTES (BYE_PLACE + 12)
@@ -859,22 +580,8 @@ static const uint32_t flags[] = {0, 1, 2, 255, 256, 65536, 0x80000000, UINT32_MA
 
 #define NOT_AGREED 0
 
-static void put_report(uint8_t *packet, record_t record)
-{
-    uint64_t written = 0;
-
-    check_answer("report: written",
-                 prunepocket_write_report(record.source, record.report.payload_type,
-                                          record.report.p, record.report.group,
-                                          record.report.media, record.report.received,
-                                          record.report.rtp, record.report.presented, packet,
-                                          PRUNEPOCKET_REPORT_BYTES, &written),
-                 0, 0);
-}
-
 static uint8_t *lend_datagram(void)
 {
-    static const uint8_t rr[RR_BYTES] = {0x80, 201, 0, 1, 0, 0, 0, 1};
     static const uint8_t bye[] = {0x82, 203, 0, 2, 0, 0, 0, 20, 0, 0, 0, 30};
     uint8_t *datagram = allocate(DATAGRAM_BYTES);
     uint64_t written = 0;
@@ -890,44 +597,6 @@ static uint8_t *lend_datagram(void)
     put_report(datagram + SETTINGS_PLACE + PRUNEPOCKET_SETTINGS_BYTES, record_20());
     memcpy(datagram + BYE_PLACE, bye, sizeof bye);
     return datagram;
-}
-
-/*
- * The table after the first bytes of a datagram from the unit of source 10, with a list that has
- * room for so many numbers. The numbers expected stand at its front; behind, it is as it was lent.
- */
-static table_t take(table_t table, const uint8_t *datagram, size_t length, uint32_t reduced_size,
-                    size_t room, struct prunepocket_answer answer, const uint64_t *numbers,
-                    size_t count)
-{
-    uint64_t *answers = allocate(room * sizeof *answers);
-    datagram_answered_t *answered = allocate(sizeof *answered);
-    table_t after;
-
-    for (size_t i = 0; i < room; i++)
-        answers[i] = FILL;
-    *answered = prunepocket_take_datagram(table, datagram, length, reduced_size, unit(10), now,
-                                          answers, room);
-    check_answer("take_datagram",
-                 (struct prunepocket_answer){number_at(answered, 0, 8), number_at(answered, 8, 8)},
-                 answer.number, answer.place);
-    check_equal("take_datagram: count", number_at(answered, 16, 8), count);
-    for (size_t i = 0; i < room; i++)
-        check_equal("take_datagram: answers", answers[i], i < count ? numbers[i] : FILL);
-    after = answered->table;
-    free(answered);
-    free(answers);
-    return after;
-}
-
-/* Refused, with the table and the list as before. */
-static void take_refused(table_t table, const uint8_t *datagram, size_t length,
-                         uint32_t reduced_size, size_t room, uint64_t number, uint64_t place)
-{
-    struct prunepocket_answer answer = {number, place};
-    table_t after = take(table, datagram, length, reduced_size, room, answer, NULL, 0);
-
-    check_true("take_datagram: the table as before", same_table(&after, &table));
 }
 
 /* The datagram is accepted into several tables, whatever room the list has for more numbers. */
@@ -1183,19 +852,6 @@ static void test_presented_limits(void)
 }
 
 /* ---- Wired units: presented in the slot of 2^-16 s in which it was received ------------------ */
-
-/* A report of the unit of this number, presented in the slot in which it was received. */
-static record_t wired_at(uint8_t source, uint64_t received)
-{
-    return (record_t){source, unit(source),
-                      {received, GROUP, MEDIA, 8910000, (uint32_t)(received >> 16), 33, 1}};
-}
-
-/* Received at 999 s, presented 03E70000. */
-static record_t wired(uint8_t source)
-{
-    return wired_at(source, SECONDS(999));
-}
 
 /* The target where a wired unit is followed. */
 static target_t wired_target(uint8_t source, uint64_t received, uint32_t counted)
@@ -1527,23 +1183,14 @@ static void test_two_tables(void)
 /* Random words for each lowest free place that has others above it. */
 #define RANDOM_WORDS 50
 
-/* Sources 100 to 163 stand at the places, and the word says which of them are held. */
-static table_t table_of(uint64_t word)
+static uint64_t next_random(void)
 {
-    table_t table = opened();
+    static uint64_t state = UINT64_C(0x9E3779B97F4A7C15);
 
-    table.held = word;
-    for (uint32_t i = 0; i < PRUNEPOCKET_PLACES; i++)
-        table.members[i] = (member_t){arrival(100 + i), 0};
-    return table;
-}
-
-/* C writes a tally at every place, held or not: from place to place there is a step between them. */
-static table_t with_tallies(table_t table, uint32_t first, uint32_t step)
-{
-    for (uint32_t i = 0; i < PRUNEPOCKET_PLACES; i++)
-        table.members[i].tally = first + i * step;
-    return table;
+    state ^= state << 13;
+    state ^= state >> 7;
+    state ^= state << 17;
+    return state;
 }
 
 /* The word as the name of a case. */
@@ -1568,16 +1215,6 @@ static void check_written(size_t lowest, uint64_t above)
     check_places(&table, &table);
     answered = prunepocket_report(table, record_10(), now);
     check_new_member(&answered, table, record_10());
-}
-
-/* The full table after the farewells of all whose places the word does not hold. */
-static table_t left_by_farewells(table_t table, uint64_t word)
-{
-    for (uint32_t i = 0; i < PRUNEPOCKET_PLACES; i++) {
-        if (!is_held(word, i))
-            table = farewell(table, 100 + i, unit(30), PRUNEPOCKET_ACCEPTED);
-    }
-    return table;
 }
 
 /* Calls alone lead to the word; sources from 200 on take the free places, and one more gets 18. */
@@ -1672,433 +1309,6 @@ static void test_own_reports(void)
     }
 }
 
-/* ---- Tallies --------------------------------------------------------------------------------- */
-
-#define LIMIT PRUNEPOCKET_TALLY_LIMIT
-
-/* A report of the member at a place of full_table and of table_of, and of its twin. */
-static record_t own_at(uint32_t place)
-{
-    return arrival(100 + place);
-}
-
-static record_t other_at(uint32_t place)
-{
-    record_t twin = own_at(place);
-
-    twin.origin = unit(31);
-    return twin;
-}
-
-/* The table after so many calls of the twin of the member at a place, farewells in every second. */
-static table_t meet_twin(table_t table, uint32_t place, uint32_t calls)
-{
-    for (uint32_t i = 0; i < calls; i++) {
-        if (i % 2 == 0)
-            table = report(table, other_at(place), now, PRUNEPOCKET_OTHER_ORIGIN);
-        else
-            table = farewell(table, 100 + place, unit(31), PRUNEPOCKET_OTHER_ORIGIN);
-    }
-    return table;
-}
-
-/* 13, 15, 16 and 17 of the member at a place, and 13 of its twin: all fields are as before. */
-static void check_uncounted(table_t table, uint32_t place)
-{
-    record_t records[] = {own_at(place), other_at(place)};
-    record_t record = own_at(place);
-
-    for (size_t i = 0; i < LENGTH(records); i++) {
-        records[i].report.group = GROUP + 1;
-        report(table, records[i], now, PRUNEPOCKET_OTHER_STREAM);
-        records[i].report.group = GROUP;
-        records[i].report.media = MEDIA + 1;
-        report(table, records[i], now, PRUNEPOCKET_OTHER_STREAM);
-    }
-    record.report.received = now.ntp + 1;
-    report(table, record, now, PRUNEPOCKET_RECEIVED_FAR);
-    record.report.received = now.ntp - SECONDS(30) - 1;
-    report(table, record, now, PRUNEPOCKET_RECEIVED_FAR);
-    record.report.received = now.ntp;
-    record.report.rtp = now.rtp + 1;
-    report(table, record, now, PRUNEPOCKET_RTP_AGED);
-    record.report.rtp = now.rtp;
-    record.report.p = 1;
-    record.report.presented = (uint32_t)(now.ntp >> 16) + SHORT_SECONDS(30) + 1;
-    report(table, record, now, PRUNEPOCKET_BADLY_PRESENTED);
-}
-
-static void test_uncounted_refusals(void)
-{
-    static const uint32_t firsts[] = {0, 7, LIMIT - 63};
-    record_t foreign = own_at(0);
-
-    CASE("refusals other than 14, at every place");
-    for (size_t i = 0; i < LENGTH(firsts); i++) {
-        table_t table = with_tallies(full_table(), firsts[i], 1);
-
-        for (uint32_t place = 0; place < PRUNEPOCKET_PLACES; place++)
-            check_uncounted(table, place);
-        report(table, record_10(), now, PRUNEPOCKET_NO_ROOM);
-        farewell(table, 10, unit(30), PRUNEPOCKET_NO_MEMBER);
-        farewell(table, 164, unit(31), PRUNEPOCKET_NO_MEMBER);
-    }
-
-    CASE("13 and 19 of a number that left a tally at a free place");
-    foreign.report.group = GROUP + 1;
-    report(with_tallies(table_of(0), 1, 1), foreign, now, PRUNEPOCKET_OTHER_STREAM);
-    farewell(with_tallies(table_of(0), 1, 1), 100, unit(30), PRUNEPOCKET_NO_MEMBER);
-    farewell(with_tallies(table_of(0), 1, 1), 100, unit(31), PRUNEPOCKET_NO_MEMBER);
-}
-
-/* 14 comes before 15 to 18, and counts whatever else is wrong. */
-static void test_counted_refusals(void)
-{
-    table_t table;
-    record_t faulty = {163, unit(31), {SECONDS(1001), GROUP, MEDIA, 9000001, 0x04050001, 33, 1}};
-
-    CASE("a twin's report that would get 15, 16 and 17, where all places are held");
-    table = full_table();
-    table = report(table, faulty, now, PRUNEPOCKET_OTHER_ORIGIN);
-    check_tallied(table, 63, own_at(63), 1);
-    table = report(table, faulty, (reading_t){0, 0}, PRUNEPOCKET_OTHER_ORIGIN);
-    check_tallied(table, 63, own_at(63), 2);
-
-    CASE("a twin of a member that is not fresh");
-    table = report(with_one(record_10()), twin_at(unit(11)), (reading_t){SECONDS(1031), 11790000},
-                   PRUNEPOCKET_OTHER_ORIGIN);
-    check_tallied(table, 0, record_10(), 1);
-}
-
-/* Each tally is another: at each place the twin calls once more often than at the one before. */
-static void test_twins_at_every_place(void)
-{
-    table_t table;
-
-    CASE("two numbers with twins, at every two neighbouring places");
-    for (uint32_t place = 0; place < PRUNEPOCKET_PLACES; place++) {
-        uint32_t next = (place + 1) % PRUNEPOCKET_PLACES;
-        table_t expected = full_table();
-
-        table = meet_twin(meet_twin(expected, place, 2), next, 3);
-        expected.members[place].tally = 2;
-        expected.members[next].tally = 3;
-        check_places(&table, &expected);
-    }
-
-    CASE("every number has a twin");
-    table = full_table();
-    for (uint32_t place = 0; place < PRUNEPOCKET_PLACES; place++)
-        table = meet_twin(table, place, place + 1);
-    for (uint32_t place = 0; place < PRUNEPOCKET_PLACES; place++)
-        check_tallied(table, place, own_at(place), place + 1);
-}
-
-/* Nothing but the member's own leaving takes its tally. */
-static void test_kept_tallies(void)
-{
-    record_t later = record_10();
-    table_t table;
-
-    CASE("a tally stays through the member's own reports, accepted and refused");
-    table = with_two(record_10(), record_20());
-    table = report(table, twin_at(unit(11)), now, PRUNEPOCKET_OTHER_ORIGIN);
-    table = farewell(table, 10, unit(12), PRUNEPOCKET_OTHER_ORIGIN);
-    table = report(table, record_10(), now, PRUNEPOCKET_ACCEPTED);
-    check_tallied(table, 0, record_10(), 2);
-    later.report.received += 1;
-    table = report(table, later, now, PRUNEPOCKET_ACCEPTED);
-    check_tallied(table, 0, later, 2);
-    later.report.received = SECONDS(1001);
-    table = report(table, later, now, PRUNEPOCKET_RECEIVED_FAR);
-    table = report(table, record_10(), now, PRUNEPOCKET_ACCEPTED);
-    check_tallied(table, 0, record_10(), 2);
-
-    CASE("a tally stays through the reports and farewells of others");
-    table = report(table, arrival(30), now, PRUNEPOCKET_ACCEPTED);
-    table = farewell(table, 30, unit(30), PRUNEPOCKET_ACCEPTED);
-    check_tallied(table, 0, record_10(), 2);
-    check_member(table, 1, record_20());
-
-    CASE("a tally stays through sweeps that the member outlasts");
-    table = sweep(table, now, 2);
-    check_tallied(table, 0, record_10(), 2);
-    table = sweep(table, (reading_t){SECONDS(1029), 9000000}, 1);
-    check_tallied(table, 0, record_10(), 2);
-    table = report(table, twin_at(unit(11)), now, PRUNEPOCKET_OTHER_ORIGIN);
-    check_tallied(table, 0, record_10(), 3);
-}
-
-/* None of the members here is fresh at this reading. */
-static const reading_t all_swept = {SECONDS(1031), 9000000};
-
-/* The member at a place has left: it, its twin or source 10 joins, at the lowest free place. */
-static void check_joining_anew(table_t left, uint32_t place)
-{
-    table_t table;
-
-    check_vacant(left, place);
-    table = report(left, own_at(place), now, PRUNEPOCKET_ACCEPTED);
-    check_member(table, lowest_free(left.held), own_at(place));
-    table = report(left, other_at(place), now, PRUNEPOCKET_ACCEPTED);
-    check_member(table, lowest_free(left.held), other_at(place));
-    table = report(left, record_10(), now, PRUNEPOCKET_ACCEPTED);
-    check_member(table, lowest_free(left.held), record_10());
-}
-
-static void test_gone_tallies(void)
-{
-    table_t full;
-    table_t left;
-
-    CASE("a member leaves by farewell, and it, its twin or another joins at its place");
-    full = with_tallies(full_table(), LIMIT - 63, 1);
-    for (uint32_t place = 0; place < PRUNEPOCKET_PLACES; place++) {
-        left = farewell(full, 100 + place, unit(30), PRUNEPOCKET_ACCEPTED);
-        check_joining_anew(left, place);
-    }
-
-    CASE("all leave by farewell, and each comes back at place 0");
-    left = left_by_farewells(full, 0);
-    for (uint32_t place = 0; place < PRUNEPOCKET_PLACES; place++)
-        check_joining_anew(left, place);
-
-    CASE("all leave by a sweep, and each comes back at place 0");
-    left = sweep(full, all_swept, 0);
-    for (uint32_t place = 0; place < PRUNEPOCKET_PLACES; place++)
-        check_joining_anew(left, place);
-
-    CASE("a farewell and a sweep leave the other tallies");
-    left = farewell(full, 100, unit(30), PRUNEPOCKET_ACCEPTED);
-    full.held &= ~UINT64_C(1);
-    check_places(&left, &full);
-    left = report(left, record_10(), now, PRUNEPOCKET_ACCEPTED);
-    left = report(left, twin_at(unit(11)), now, PRUNEPOCKET_OTHER_ORIGIN);
-    left = sweep(left, (reading_t){SECONDS(999), 9000000}, 1);
-    check_tallied(left, 0, record_10(), 1);
-    check_vacant(left, 1);
-    check_vacant(left, 63);
-}
-
-/* By public calls alone. */
-static void test_joining_at_another_place(void)
-{
-    table_t table;
-
-    CASE("a member leaves, another takes its place, and it comes back to another place");
-    table = with_two(record_10(), record_20());
-    table = report(table, twin_at(unit(11)), now, PRUNEPOCKET_OTHER_ORIGIN);
-    table = farewell(table, 20, unit(21), PRUNEPOCKET_OTHER_ORIGIN);
-    table = farewell(table, 20, unit(21), PRUNEPOCKET_OTHER_ORIGIN);
-    table = farewell(table, 10, unit(10), PRUNEPOCKET_ACCEPTED);
-    check_vacant(table, 0);
-    table = report(table, arrival(30), now, PRUNEPOCKET_ACCEPTED);
-    check_member(table, 0, arrival(30));
-    table = report(table, record_10(), now, PRUNEPOCKET_ACCEPTED);
-    check_member(table, 2, record_10());
-    check_tallied(table, 1, record_20(), 2);
-
-    CASE("it leaves, and its twin joins: now the first unit is the twin");
-    table = farewell(table, 10, unit(10), PRUNEPOCKET_ACCEPTED);
-    table = report(table, twin_at(unit(11)), now, PRUNEPOCKET_ACCEPTED);
-    check_member(table, 2, twin_at(unit(11)));
-    table = report(table, record_10(), now, PRUNEPOCKET_OTHER_ORIGIN);
-    table = farewell(table, 10, unit(10), PRUNEPOCKET_OTHER_ORIGIN);
-    check_tallied(table, 2, twin_at(unit(11)), 2);
-    check_tallied(table, 1, record_20(), 2);
-    check_member(table, 0, arrival(30));
-
-    CASE("all are swept, and one joins anew");
-    table = sweep(table, all_swept, 0);
-    check_vacant(table, 1);
-    table = report(table, record_20(), now, PRUNEPOCKET_ACCEPTED);
-    check_member(table, 0, record_20());
-}
-
-static void test_tally_limit(void)
-{
-    static const uint32_t places[] = {0, 31, 63};
-    table_t full;
-
-    CASE("the limit of a tally");
-    check_equal("PRUNEPOCKET_TALLY_LIMIT", LIMIT, UINT64_C(4294967295));
-    full = full_table();
-    for (size_t i = 0; i < LENGTH(places); i++) {
-        uint32_t place = places[i];
-        table_t table = full;
-
-        table.members[place].tally = 4294967294;
-        check_tallied(report(table, other_at(place), now, PRUNEPOCKET_OTHER_ORIGIN), place,
-                      own_at(place), 4294967295);
-        check_tallied(farewell(table, 100 + place, unit(31), PRUNEPOCKET_OTHER_ORIGIN), place,
-                      own_at(place), 4294967295);
-        check_tallied(meet_twin(table, place, 4), place, own_at(place), 4294967295);
-        table.members[place].tally = 4294967295;
-        check_tallied(meet_twin(table, place, 1), place, own_at(place), 4294967295);
-        check_tallied(farewell(table, 100 + place, unit(31), PRUNEPOCKET_OTHER_ORIGIN), place,
-                      own_at(place), 4294967295);
-        check_tallied(report(table, own_at(place), now, PRUNEPOCKET_ACCEPTED), place,
-                      own_at(place), 4294967295);
-    }
-
-    CASE("each carry of a tally");
-    for (unsigned bits = 1; bits < 32; bits++) {
-        full.members[5].tally = (UINT32_C(1) << bits) - 1;
-        check_tallied(meet_twin(full, 5, 1), 5, own_at(5), UINT32_C(1) << bits);
-    }
-}
-
-/* Tables that differ in their tallies alone choose alike, and a sweep leaves the same members. */
-static void check_choice_alike(table_t table, reading_t reading, uint32_t first, uint32_t step)
-{
-    table_t other = with_tallies(table, first, step);
-    followed_t expected = prunepocket_choose(table, reading);
-    followed_t followed = prunepocket_choose(other, reading);
-
-    check_equal("choose: number", followed.number, expected.number);
-    check_true("choose: target", same_target(&followed.target, &expected.target));
-    check_true("choose: the table as before", same_table(&followed.table, &other));
-    check_equal("sweep: places held", prunepocket_sweep(other, reading).table.held,
-                prunepocket_sweep(table, reading).table.held);
-}
-
-static void test_choices_with_tallies(void)
-{
-    static const uint32_t steps[] = {0, 1, UINT32_MAX, UINT32_C(1) << 26, 0x9E3779B9};
-    table_t equals = full_table();
-    table_t pair = with_two(record_20(), wired(10));
-    table_t tie = with_two(arrival(30), arrival(29));
-
-    CASE("choosing does not look at tallies");
-    for (size_t i = 0; i < LENGTH(steps); i++) {
-        check_choice_alike(equals, now, LIMIT, steps[i]);
-        check_choice_alike(equals, now, 100, steps[i]);
-        check_choice_alike(equals, all_swept, 100, steps[i]);
-        check_choice_alike(pair, now, LIMIT, steps[i]);
-        check_choice_alike(tie, now, 1, steps[i]);
-        check_choice_alike(opened(), now, 1, steps[i]);
-    }
-    check_chosen(with_tallies(equals, 0, 1), now, 100, 64);
-    check_chosen(with_tallies(equals, 63, UINT32_MAX), now, 100, 64);
-    check_chosen(with_tallies(tie, 0, 1), now, 29, 2);
-    check_chosen(with_tallies(tie, 1, UINT32_MAX), now, 29, 2);
-    check_target(choose(with_tallies(pair, 0, 1), now), target_20);
-    check_target(choose(with_tallies(pair, 1, UINT32_MAX), now), target_20);
-}
-
-static void test_vacant_tallies(void)
-{
-    static const size_t behind[] = {64, 65, 127, 128, (size_t)1 << 32, SIZE_MAX};
-    table_t table;
-
-    CASE("a place without a member shows no tally, whatever stands in its memory");
-    table = with_tallies(table_of(UINT64_C(0x5555555555555555)), 1, 1);
-    for (uint32_t place = 0; place < PRUNEPOCKET_PLACES; place += 2) {
-        check_tallied(table, place, own_at(place), 1 + place);
-        check_vacant(table, place + 1);
-    }
-    table.held = UINT64_MAX;
-    for (size_t i = 0; i < LENGTH(behind); i++)
-        check_vacant(table, behind[i]);
-}
-
-/* ---- Tallies out of datagrams ---------------------------------------------------------------- */
-
-/* As many sources as a BYE can have. */
-#define BYE_SOURCES 31
-#define BYE_BYTES (4 + 4 * BYE_SOURCES)
-#define TWIN_CALLS (1 + BYE_SOURCES)
-#define TWIN_BYTES (RR_BYTES + PRUNEPOCKET_REPORT_BYTES + BYE_BYTES)
-
-/* An RR, the report of 10 and its farewell 31 times; or the farewells before the report. */
-static uint8_t *lend_twin_datagram(int farewells_first)
-{
-    static const uint8_t rr[RR_BYTES] = {0x80, 201, 0, 1, 0, 0, 0, 1};
-    static const uint8_t header[] = {0x80 | BYE_SOURCES, 203, 0, BYE_SOURCES};
-    uint8_t *datagram = allocate(TWIN_BYTES);
-    uint8_t *bye = datagram + RR_BYTES + (farewells_first ? 0 : PRUNEPOCKET_REPORT_BYTES);
-
-    memset(datagram, 0, TWIN_BYTES);
-    memcpy(datagram, rr, sizeof rr);
-    put_report(datagram + RR_BYTES + (farewells_first ? BYE_BYTES : 0), record_10());
-    memcpy(bye, header, sizeof header);
-    for (size_t i = 1; i <= BYE_SOURCES; i++)
-        bye[4 * i + 3] = 10;
-    return datagram;
-}
-
-/* From the twin, all calls get 14: the tally of the member of 10, from one to another. */
-static void check_twin_datagram(const uint8_t *datagram, uint32_t from, uint32_t to)
-{
-    static const struct prunepocket_answer none;
-    uint64_t numbers[TWIN_CALLS];
-    table_t table = with_two(record_20(), twin_at(unit(11)));
-    table_t expected;
-
-    for (size_t i = 0; i < TWIN_CALLS; i++)
-        numbers[i] = PRUNEPOCKET_OTHER_ORIGIN;
-    table.members[1].tally = from;
-    expected = table;
-    expected.members[1].tally = to;
-    table = take(table, datagram, TWIN_BYTES, 0, TWIN_CALLS, none, numbers, TWIN_CALLS);
-    check_true("all else as before", same_table(&table, &expected));
-    check_tallied(table, 1, twin_at(unit(11)), to);
-}
-
-static void test_twin_datagrams(void)
-{
-    for (int farewells_first = 0; farewells_first < 2; farewells_first++) {
-        uint8_t *datagram = lend_twin_datagram(farewells_first);
-        table_t table = with_one(twin_at(unit(11)));
-
-        CASE("a datagram with thirty-two calls of a twin");
-        check_twin_datagram(datagram, 0, 32);
-        check_twin_datagram(datagram, 5, 37);
-
-        CASE("a datagram with thirty-two calls of a twin, near the limit");
-        check_twin_datagram(datagram, LIMIT - 33, LIMIT - 1);
-        check_twin_datagram(datagram, LIMIT - 32, LIMIT);
-        check_twin_datagram(datagram, LIMIT - 31, LIMIT);
-        check_twin_datagram(datagram, LIMIT - 1, LIMIT);
-        check_twin_datagram(datagram, LIMIT, LIMIT);
-
-        CASE("a refused datagram of a twin");
-        table.members[0].tally = 5;
-        take_refused(table, datagram, TWIN_BYTES, 0, TWIN_CALLS - 1, PRUNEPOCKET_SHORT_BUFFER, 0);
-        take_refused(table, datagram, TWIN_BYTES - 1, 0, TWIN_CALLS, PRUNEPOCKET_BAD_LENGTH, 0);
-        take_refused(table, datagram + RR_BYTES, TWIN_BYTES - RR_BYTES, 0, TWIN_CALLS,
-                     PRUNEPOCKET_BAD_FIRST, 0);
-        free(datagram);
-    }
-}
-
-/* The member itself: it leaves with the first farewell, and each farewell behind that gets 19. */
-static void test_own_datagrams(void)
-{
-    static const struct prunepocket_answer none;
-    uint64_t numbers[TWIN_CALLS];
-    uint8_t *datagram = lend_twin_datagram(0);
-    table_t table = with_one(record_10());
-
-    CASE("a datagram with the member's report and farewells");
-    table.members[0].tally = 5;
-    for (size_t i = 0; i < TWIN_CALLS; i++)
-        numbers[i] = i < 2 ? PRUNEPOCKET_ACCEPTED : PRUNEPOCKET_NO_MEMBER;
-    table = take(table, datagram, TWIN_BYTES, 0, TWIN_CALLS, none, numbers, TWIN_CALLS);
-    check_vacant(table, 0);
-    free(datagram);
-
-    CASE("a datagram with the member's farewells, and then its report");
-    datagram = lend_twin_datagram(1);
-    table = with_one(record_10());
-    table.members[0].tally = 5;
-    numbers[1] = PRUNEPOCKET_NO_MEMBER;
-    numbers[TWIN_CALLS - 1] = PRUNEPOCKET_ACCEPTED;
-    table = take(table, datagram, TWIN_BYTES, 0, TWIN_CALLS, none, numbers, TWIN_CALLS);
-    check_member(table, 0, record_10());
-    free(datagram);
-}
-
 /* ---- Tables that C has written on ------------------------------------------------------------ */
 
 #define RANDOM_TABLES 1000
@@ -2136,7 +1346,7 @@ static table_t random_table(int few)
     fill_random(&table, sizeof table, few);
     for (size_t place = 0; place < PRUNEPOCKET_PLACES; place++) {
         if (next_random() % 4 == 0)
-            table.members[place].tally = LIMIT - (uint32_t)(next_random() % 2);
+            table.members[place].tally = PRUNEPOCKET_TALLY_LIMIT - (uint32_t)(next_random() % 2);
     }
     if (next_random() % 2 == 0)
         table.held = word_with(next_random() % PRUNEPOCKET_PLACES, table.held);
@@ -2211,7 +1421,7 @@ static void count_14(const table_t *table, uint32_t source)
 
     check_true("14: the number is held", holder < PRUNEPOCKET_PLACES);
     if (holder < PRUNEPOCKET_PLACES)
-        raised[table->members[holder].tally == LIMIT]++;
+        raised[table->members[holder].tally == PRUNEPOCKET_TALLY_LIMIT]++;
 }
 
 static void random_report(table_t table, record_t record, reading_t reading)
@@ -2389,17 +1599,6 @@ int main(void)
     test_single_places();
     test_random_words();
     test_own_reports();
-    test_uncounted_refusals();
-    test_counted_refusals();
-    test_twins_at_every_place();
-    test_kept_tallies();
-    test_gone_tallies();
-    test_joining_at_another_place();
-    test_tally_limit();
-    test_choices_with_tallies();
-    test_vacant_tallies();
-    test_twin_datagrams();
-    test_own_datagrams();
     test_random_tables();
     return finish_checks();
 }
