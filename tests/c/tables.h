@@ -81,16 +81,6 @@ static int is_held(uint64_t word, size_t place)
     return (word >> place & 1) == 1;
 }
 
-/* The lowest free place, or PRUNEPOCKET_PLACES where none is free. */
-static size_t lowest_free(uint64_t word)
-{
-    size_t place = 0;
-
-    while (place < PRUNEPOCKET_PLACES && is_held(word, place))
-        place++;
-    return place;
-}
-
 static unsigned count_held(uint64_t word)
 {
     unsigned count = 0;

@@ -15,6 +15,16 @@ static uint64_t with_place(uint64_t word, size_t place)
     return word | UINT64_C(1) << place;
 }
 
+/* The lowest free place, or PRUNEPOCKET_PLACES where none is free. */
+static size_t lowest_free(uint64_t word)
+{
+    size_t place = 0;
+
+    while (place < PRUNEPOCKET_PLACES && is_held(word, place))
+        place++;
+    return place;
+}
+
 /* All places below the lowest free one are held, and above it those that another word holds. */
 static uint64_t word_with(size_t lowest, uint64_t above)
 {

@@ -54,6 +54,8 @@ static void check_uncounted(table_t table, uint32_t place)
     record.report.received = now.ntp;
     record.report.rtp = now.rtp + 1;
     report(table, record, now, PRUNEPOCKET_RTP_AGED);
+    record.report.rtp = now.rtp - 60 * RATE - 1;
+    report(table, record, now, PRUNEPOCKET_RTP_AGED);
     record.report.rtp = now.rtp;
     record.report.p = 1;
     record.report.presented = (uint32_t)(now.ntp >> 16) + SHORT_SECONDS(30) + 1;
@@ -164,18 +166,49 @@ static void test_kept_tallies(void)
 /* None of the members here is fresh at this reading. */
 static const reading_t all_swept = {SECONDS(1031), 9000000};
 
-/* The member at a place has left: it, its twin or source 10 joins, at the lowest free place. */
-static void check_joining_anew(table_t left, uint32_t place)
+/* The member of one place has left. It, its twin or source 20 joins at another, or at its own. */
+static void check_joining_anew(table_t left, uint32_t from, uint32_t place)
 {
     table_t table;
 
     check_vacant(left, place);
-    table = report(left, member_report(place), now, PRUNEPOCKET_ACCEPTED);
-    check_member(table, lowest_free(left.held), member_report(place));
-    table = report(left, twin_report(place), now, PRUNEPOCKET_ACCEPTED);
-    check_member(table, lowest_free(left.held), twin_report(place));
-    table = report(left, record_10(), now, PRUNEPOCKET_ACCEPTED);
-    check_member(table, lowest_free(left.held), record_10());
+    table = report(left, member_report(from), now, PRUNEPOCKET_ACCEPTED);
+    check_member(table, place, member_report(from));
+    table = report(left, twin_report(from), now, PRUNEPOCKET_ACCEPTED);
+    check_member(table, place, twin_report(from));
+    table = report(left, record_20(), now, PRUNEPOCKET_ACCEPTED);
+    check_member(table, place, record_20());
+}
+
+static table_t leave_by_farewell(table_t table, uint32_t place)
+{
+    return farewell(table, 100 + place, unit(30), PRUNEPOCKET_ACCEPTED);
+}
+
+/* Its last report is just fresh at the reading of the cases, where all others are fresh for longer. */
+static table_t leave_by_sweep(table_t table, uint32_t place)
+{
+    record_t oldest = member_report(place);
+
+    oldest.report.received = now.ntp - SECONDS(30);
+    table = report(table, oldest, now, PRUNEPOCKET_ACCEPTED);
+    return sweep(table, (reading_t){now.ntp + 1, now.rtp}, prunepocket_count_members(table) - 1);
+}
+
+/* From each place: back to it, and where source 10 has taken it, to the next, whose member left too. */
+static void check_coming_back(table_t (*leave)(table_t, uint32_t))
+{
+    table_t full = with_tallies(full_table(), LIMIT - 63, 1);
+
+    for (uint32_t place = 0; place < PRUNEPOCKET_PLACES; place++) {
+        uint32_t next = (place + 1) % PRUNEPOCKET_PLACES;
+        table_t left = leave(full, place);
+
+        check_joining_anew(left, place, place);
+        left = leave(report(left, record_10(), now, PRUNEPOCKET_ACCEPTED), next);
+        check_member(left, place, record_10());
+        check_joining_anew(left, place, next);
+    }
 }
 
 static void test_gone_tallies(void)
@@ -183,24 +216,36 @@ static void test_gone_tallies(void)
     table_t full;
     table_t left;
 
-    CASE("a member leaves by farewell, and it, its twin or another joins at its place");
-    full = with_tallies(full_table(), LIMIT - 63, 1);
-    for (uint32_t place = 0; place < PRUNEPOCKET_PLACES; place++) {
-        left = farewell(full, 100 + place, unit(30), PRUNEPOCKET_ACCEPTED);
-        check_joining_anew(left, place);
-    }
+    CASE("a member leaves by farewell, and it, its twin or another joins at its place or the next");
+    check_coming_back(leave_by_farewell);
+
+    CASE("a member leaves by a sweep, and it, its twin or another joins at its place or the next");
+    check_coming_back(leave_by_sweep);
 
     CASE("all leave by farewell, and each comes back at place 0");
+    full = with_tallies(full_table(), LIMIT - 63, 1);
     left = left_by_farewells(full, 0);
-    for (uint32_t place = 0; place < PRUNEPOCKET_PLACES; place++)
-        check_joining_anew(left, place);
+    for (uint32_t place = 0; place < PRUNEPOCKET_PLACES; place++) {
+        check_vacant(left, place);
+        check_joining_anew(left, place, 0);
+    }
 
     CASE("all leave by a sweep, and each comes back at place 0");
     left = sweep(full, all_swept, 0);
-    for (uint32_t place = 0; place < PRUNEPOCKET_PLACES; place++)
-        check_joining_anew(left, place);
+    for (uint32_t place = 0; place < PRUNEPOCKET_PLACES; place++) {
+        check_vacant(left, place);
+        check_joining_anew(left, place, 0);
+    }
+}
+
+/* Of others than the member. */
+static void test_leaving_of_others(void)
+{
+    table_t full;
+    table_t left;
 
     CASE("a farewell and a sweep leave the other tallies");
+    full = with_tallies(full_table(), LIMIT - 63, 1);
     left = farewell(full, 100, unit(30), PRUNEPOCKET_ACCEPTED);
     full.held &= ~UINT64_C(1);
     check_places(&left, &full);
@@ -438,6 +483,7 @@ int main(void)
     test_twins_at_every_place();
     test_kept_tallies();
     test_gone_tallies();
+    test_leaving_of_others();
     test_joining_at_another_place();
     test_tally_limit();
     test_choices_with_tallies();
