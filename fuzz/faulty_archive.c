@@ -46,7 +46,9 @@
  * 42: a number that joins anew has the tally that it left with
  * 43: a call of a datagram that gets 14 does not raise the tally
  * 44: a place that is not held shows the tally in its memory
+ * 45: a report that gets 14 does not raise the tally
  */
+#include "../tests/c/lateness.h"
 #include "prunepocket.h"
 
 #include <string.h>
@@ -176,7 +178,7 @@ static size_t next_held(const struct prunepocket_table *table, size_t place)
 }
 
 /* After 14 under a number: the tally before and the one that came. */
-static void spoil_raised(const struct prunepocket_table *before, struct prunepocket_table *after, uint32_t source)
+static void plant_after_14(const struct prunepocket_table *before, struct prunepocket_table *after, uint32_t source)
 {
     size_t place = place_of(before, source, 1);
     uint32_t tally = before->members[place].tally;
@@ -194,7 +196,8 @@ static void spoil_raised(const struct prunepocket_table *before, struct prunepoc
 }
 
 /* An accepted report, of a member or of a new one. Memory at places that are not held still has who left. */
-static void spoil_accepted(const struct prunepocket_table *before, struct prunepocket_table *after, uint32_t source)
+static void plant_after_accepted(const struct prunepocket_table *before, struct prunepocket_table *after,
+                                 uint32_t source)
 {
     size_t place = place_of(after, source, 1);
     int is_new = !is_held(before, place);
@@ -209,7 +212,7 @@ static void spoil_accepted(const struct prunepocket_table *before, struct prunep
 }
 
 /* Members that left, by farewell or by a sweep: memory keeps their tallies, or has 0. */
-static void spoil_left(const struct prunepocket_table *before, struct prunepocket_table *after, int keeps)
+static void plant_after_leaving(const struct prunepocket_table *before, struct prunepocket_table *after, int keeps)
 {
     for (size_t place = 0; place < PRUNEPOCKET_PLACES; place++)
         if (is_held(before, place) && !is_held(after, place))
@@ -230,10 +233,12 @@ struct prunepocket_answered __wrap_prunepocket_report(struct prunepocket_table t
         answered.table.members[place].tally++;
     if (ARCHIVE_FAULT == 33 && answered.number == PRUNEPOCKET_RECEIVED_FAR && place < PRUNEPOCKET_PLACES)
         answered.table.members[place].tally++;
+    if (ARCHIVE_FAULT == 45 && answered.number == PRUNEPOCKET_OTHER_ORIGIN)
+        answered.table = table;
     if (answered.number == PRUNEPOCKET_OTHER_ORIGIN)
-        spoil_raised(&table, &answered.table, record.source);
+        plant_after_14(&table, &answered.table, record.source);
     if (answered.number == PRUNEPOCKET_ACCEPTED)
-        spoil_accepted(&table, &answered.table, record.source);
+        plant_after_accepted(&table, &answered.table, record.source);
     return answered;
 }
 
@@ -245,8 +250,8 @@ struct prunepocket_answered __wrap_prunepocket_farewell(struct prunepocket_table
     if (ARCHIVE_FAULT == 34 && answered.number == PRUNEPOCKET_OTHER_ORIGIN)
         answered.table = table;
     if (answered.number == PRUNEPOCKET_OTHER_ORIGIN)
-        spoil_raised(&table, &answered.table, source);
-    spoil_left(&table, &answered.table, ARCHIVE_FAULT != 36);
+        plant_after_14(&table, &answered.table, source);
+    plant_after_leaving(&table, &answered.table, ARCHIVE_FAULT != 36);
     return answered;
 }
 
@@ -254,7 +259,7 @@ struct prunepocket_answered __wrap_prunepocket_sweep(struct prunepocket_table ta
 {
     struct prunepocket_answered answered = __real_prunepocket_sweep(table, reading);
 
-    spoil_left(&table, &answered.table, ARCHIVE_FAULT != 35);
+    plant_after_leaving(&table, &answered.table, ARCHIVE_FAULT != 35);
     return answered;
 }
 
@@ -292,16 +297,6 @@ __wrap_prunepocket_take_datagram(struct prunepocket_table table, const uint8_t *
     return answered;
 }
 
-/* The lateness of a target's three times, in units of 1/(rate * 2^32) s. */
-static int64_t lateness(const struct prunepocket_target *target, uint32_t rate, struct prunepocket_reading reading)
-{
-    uint64_t delay = target->presented == 0 ? 0 : target->presented - target->received;
-    uint64_t ntp_age = reading.ntp - target->received;
-    uint32_t rtp_age = reading.rtp - target->rtp;
-
-    return (int64_t)rate * ((int64_t)delay - (int64_t)ntp_age) + ((int64_t)rtp_age << 32);
-}
-
 /* The target, or that of an equally late member of the highest tally: each is chosen where it alone is held. */
 static struct prunepocket_target choose_by_tally(struct prunepocket_table table, struct prunepocket_reading reading,
                                                  struct prunepocket_target target)
@@ -316,7 +311,7 @@ static struct prunepocket_target choose_by_tally(struct prunepocket_table table,
         table.held = held & UINT64_C(1) << place;
         alone = __real_prunepocket_choose(table, reading);
         if (alone.number == PRUNEPOCKET_ACCEPTED && (alone.target.presented == 0) == (target.presented == 0) &&
-            lateness(&alone.target, table.rate, reading) == lateness(&target, table.rate, reading) &&
+            lateness(alone.target, table.rate, reading) == lateness(target, table.rate, reading) &&
             table.members[place].tally > highest) {
             highest = table.members[place].tally;
             chosen = alone.target;

@@ -51,11 +51,15 @@ enum tally_case {
     BY_FAREWELL,
     IN_DATAGRAM,
     TWIN_13,
+    OWN_13,
     OWN_15,
+    OWN_16,
+    OWN_17,
     OWN_ACCEPTED,
     SWEEP_OUTLASTED,
     AFTER_FAREWELL,
     AFTER_SWEEP,
+    JOINED_ANEW,
     TO_LIMIT,
     AT_LIMIT,
     EQUAL_HIGHER,
@@ -67,11 +71,15 @@ static const struct share tally_shares[TALLY_CASES] = {
     {"14 of a farewell", 1000},
     {"14 in a datagram", 10000},
     {"13 of a twin", 10000},
+    {"13 of a tallied member", 20000},
     {"15 of a tallied member", 10000},
+    {"16 of a tallied member", 10000},
+    {"17 of a tallied member", 100000},
     {"accepted of a tallied member", 1000},
     {"sweeps outlasted by a tallied member", 10000},
     {"new member at the place of a tallied one after a farewell", 20000},
     {"new member at the place of a tallied one after a sweep", 20000},
+    {"new member whose number left with a tally", 20000},
     {"14 up to the limit", 10000},
     {"14 at the limit", 10000},
     {"chosen among equals of higher tallies", 1000},
@@ -103,7 +111,7 @@ static uint64_t reports, at_step_0[LOW_BITS][NUMBERS], wired, wired_ties;
 /* Reports of new members, by calls and in datagrams. */
 static uint64_t new_members[NEW_MEMBERS];
 
-/* What befell tallies, by calls and in datagrams. */
+/* What was done to tallies, by calls and in datagrams. */
 static uint64_t tallies_met[TALLY_CASES];
 
 /* Below so many reports, as where one input is run, a share says nothing. */
@@ -389,20 +397,25 @@ static void count_14(enum tally_case raised_by, uint32_t tally)
 /* What a report got of another origin than the row's, or of the row's own; before, the row had this tally. */
 static void count_member_report(bool twin, unsigned number, uint32_t tally)
 {
+    static const enum tally_case own[NUMBERS] = {
+        [0] = OWN_ACCEPTED, [13] = OWN_13, [15] = OWN_15, [16] = OWN_16, [17] = OWN_17,
+    };
+
     if (number == 14)
         count_14(BY_REPORT, tally);
     if (number == 13 && twin)
         count_tally(TWIN_13);
-    if (number == 15 && tally > 0)
-        count_tally(OWN_15);
-    if (number == 0 && tally > 0)
-        count_tally(OWN_ACCEPTED);
+    if (!twin && tally > 0)
+        count_tally(own[number]);
     replaced += number == 0;
 }
 
-static void count_joining(struct sides *sides, size_t place)
+/* A new row stands at a place. Where its number had a row before, that left with this tally. */
+static void count_joining(struct sides *sides, size_t place, uint32_t tally)
 {
     count_new_member(&sides->rows, place);
+    if (tally > 0)
+        count_tally(JOINED_ANEW);
     if (sides->left[place] == LEFT_BY_FAREWELL)
         count_tally(AFTER_FAREWELL);
     if (sides->left[place] == LEFT_BY_SWEEP)
@@ -415,14 +428,14 @@ static unsigned report_expected(struct sides *sides, const struct row *row, stru
 {
     const struct row *member = register_row(&sides->rows, row->source);
     bool twin = member && memcmp(&member->origin, &row->origin, sizeof row->origin) != 0;
-    uint32_t tally = member ? register_tally_at(&sides->rows, place_of(&sides->rows, row->source)) : 0;
+    uint32_t tally = register_last_tally(&sides->rows, row->source);
     unsigned number = register_report(&sides->rows, row, now);
 
     count_report(&row->report, number);
     if (member)
         count_member_report(twin, number, tally);
     if (number == 0 && !member)
-        count_joining(sides, place_of(&sides->rows, row->source));
+        count_joining(sides, place_of(&sides->rows, row->source), tally);
     if (number == 18)
         count_new_member(&sides->rows, PLACES);
     return number;
@@ -984,24 +997,31 @@ static void report_alike(struct script *script, struct sides *sides, uint8_t sai
     }
 }
 
-/* The row that has so many before it, by place; null if there is none. */
-static const struct row *row_behind(const struct plain_register *rows, size_t before)
+/* The row that a byte says, in the order of places; null where there are none, and no byte is read. */
+static const struct row *row_said(struct script *script, const struct plain_register *rows)
 {
+    size_t count = register_count(rows);
+    size_t before = count > 0 ? byte(script) % count : 0;
+
     for (size_t place = 0; place < PLACES; place++)
         if (rows->held[place] && before-- == 0)
             return &rows->rows[place];
     return NULL;
 }
 
-/* A member says farewell, so that its place is free. */
-static void leave(struct script *script, struct sides *sides)
+/* A farewell of any number, or a member's own, so that its place is free. */
+static void leave(struct script *script, struct sides *sides, uint8_t said)
 {
-    size_t count = register_count(&sides->rows);
+    if (said & 16) {
+        const struct row *row = row_said(script, &sides->rows);
 
-    if (count > 0) {
-        const struct row *row = row_behind(&sides->rows, byte(script) % count);
+        if (row)
+            farewell_both(sides, row->source, &row->origin);
+    } else {
+        uint32_t from = source(script);
+        struct from its = origin(script);
 
-        farewell_both(sides, row->source, &row->origin);
+        farewell_both(sides, from, &its);
     }
 }
 
@@ -1011,11 +1031,10 @@ static void leave(struct script *script, struct sides *sides)
  */
 static void write_tally(struct script *script, struct sides *sides)
 {
-    size_t count = register_count(&sides->rows);
+    const struct row *row = row_said(script, &sides->rows);
 
-    if (count > 0) {
-        const struct row *row = row_behind(&sides->rows, byte(script) % count);
-        size_t place = (size_t)(row - sides->rows.rows);
+    if (row) {
+        size_t place = place_of(&sides->rows, row->source);
         uint8_t said = byte(script);
         struct from twin = row->origin;
 
@@ -1026,94 +1045,142 @@ static void write_tally(struct script *script, struct sides *sides)
     }
 }
 
-static void call_script(struct script *script, struct sides *sides)
+/* Choosing where a member is just fresh or just not, and sometimes a sweep there. */
+static void choose_at_limit(struct script *script, struct sides *sides, uint8_t said)
+{
+    const struct row *row = row_said(script, &sides->rows);
+
+    if (row) {
+        struct clocks limit;
+
+        limit.n = row->report.received + ntp_age(script);
+        limit.r = row->report.rtp + rtp_age(script, sides->rows.rate);
+        choose_both(sides, limit);
+        if (said & 16)
+            sweep_both(sides, limit);
+    }
+}
+
+/* What calls leave for those behind them: the clocks and the last report. */
+struct state {
+    struct clocks now;
+    struct told report;
+};
+
+/* A report with times of its own. */
+static void report_anew(struct script *script, struct sides *sides, struct state *state)
+{
+    struct told *report = &state->report;
+    struct row row = {.source = source(script)};
+
+    row.origin = origin(script);
+    describe(script, sides, report);
+    report->received = received_time(script, &state->now);
+    report->rtp = state->now.r - rtp_age(script, sides->rows.rate);
+    report->presented = presented(script, report->received);
+    row.report = *report;
+    report_both(sides, &row, state->now);
+}
+
+/* The report before, from another source. */
+static void report_again(struct script *script, struct sides *sides, const struct state *state)
+{
+    struct row row = {.source = source(script)};
+
+    row.origin = origin(script);
+    row.report = state->report;
+    report_both(sides, &row, state->now);
+}
+
+/* A little later or earlier by one of the clocks. */
+static void shift(struct told *report, uint8_t more)
+{
+    report->presented += more & 1 ? (uint32_t)(more >> 3) : 0;
+    report->received -= more & 2 ? (uint64_t)(more >> 3) << 16 : 0;
+    report->rtp -= more & 4 ? (uint32_t)(more >> 3) : 0;
+}
+
+static void call_report(struct script *script, struct sides *sides, uint8_t said, struct state *state)
+{
+    switch (said % 12) {
+    default: /* 0 and 1 */
+        report_anew(script, sides, state);
+        break;
+    case 2:
+        report_again(script, sides, state);
+        break;
+    case 3:
+        shift(&state->report, byte(script));
+        report_again(script, sides, state);
+        break;
+    case 4:
+        report_alike(script, sides, said, &state->report, state->now);
+        break;
+    }
+}
+
+static void call_choose(struct script *script, struct sides *sides, uint8_t said, struct clocks now)
+{
+    switch (said % 12) {
+    case 7:
+        if (said & 16)
+            write_tally(script, sides);
+        choose_both(sides, now);
+        break;
+    case 8: /* at another reading, which does not move the clocks */
+        choose_both(sides, move(script, now, sides->rows.rate));
+        break;
+    default: /* 9 */
+        choose_at_limit(script, sides, said);
+        break;
+    }
+}
+
+static void call_one(struct script *script, struct sides *sides, struct state *state)
 {
     static struct arrival arrival;
-    struct clocks now = {1000 * SECOND, 9000000};
+    uint8_t said = byte(script);
+
+    switch (said % 12) {
+    default: /* 0 to 4 */
+        call_report(script, sides, said, state);
+        break;
+    case 5:
+        leave(script, sides, said);
+        break;
+    case 6:
+        sweep_both(sides, state->now);
+        break;
+    case 7:
+    case 8:
+    case 9:
+        call_choose(script, sides, said, state->now);
+        break;
+    case 10:
+        state->now = move(script, state->now, sides->rows.rate);
+        break;
+    case 11:
+        arrive(script, &state->report, &arrival);
+        arrival.now = state->now;
+        datagram_both(sides, &arrival);
+        break;
+    }
+}
+
+static void call_script(struct script *script, struct sides *sides)
+{
     /* P1 of document 01, until the script says otherwise. */
-    struct told report = {999 * SECOND, sides->rows.group, sides->rows.media, 8910000, 0x03E78000, 33, 1};
-    struct row row;
+    struct state state = {
+        {1000 * SECOND, 9000000},
+        {999 * SECOND, sides->rows.group, sides->rows.media, 8910000, 0x03E78000, 33, 1},
+    };
 
     while (script->left > 0 && sides->calls < MOST_CALLS) {
-        uint8_t said = byte(script);
-
-        switch (said % 12) {
-        case 0: /* a report with times of its own */
-        case 1:
-            row.source = source(script);
-            row.origin = origin(script);
-            describe(script, sides, &report);
-            report.received = received_time(script, &now);
-            report.rtp = now.r - rtp_age(script, sides->rows.rate);
-            report.presented = presented(script, report.received);
-            row.report = report;
-            report_both(sides, &row, now);
-            break;
-        case 2: /* the report before, from another source */
-            row.source = source(script);
-            row.origin = origin(script);
-            row.report = report;
-            report_both(sides, &row, now);
-            break;
-        case 3: /* the report before, a little later or earlier by one of the clocks */
-        {
-            uint8_t more = byte(script);
-            row.source = source(script);
-            row.origin = origin(script);
-            report.presented += more & 1 ? (uint32_t)(more >> 3) : 0;
-            report.received -= more & 2 ? (uint64_t)(more >> 3) << 16 : 0;
-            report.rtp -= more & 4 ? (uint32_t)(more >> 3) : 0;
-            row.report = report;
-            report_both(sides, &row, now);
-            break;
-        }
-        case 4:
-            report_alike(script, sides, said, &report, now);
-            break;
-        case 5:
-            if (said & 16) {
-                leave(script, sides);
-            } else {
-                uint32_t from = source(script);
-                struct from its = origin(script);
-                farewell_both(sides, from, &its);
-            }
-            break;
-        case 6:
-            sweep_both(sides, now);
-            break;
-        case 7:
-            if (said & 16)
-                write_tally(script, sides);
-            choose_both(sides, now);
-            break;
-        case 8: /* choosing at another reading, which does not move the clocks */
-            choose_both(sides, move(script, now, sides->rows.rate));
-            break;
-        case 9: /* choosing where a member is just fresh or just not, and sometimes a sweep there */
-            if (register_count(&sides->rows) > 0) {
-                size_t before = byte(script) % register_count(&sides->rows);
-                const struct told *held = &row_behind(&sides->rows, before)->report;
-                struct clocks limit = {held->received + ntp_age(script),
-                                       held->rtp + rtp_age(script, sides->rows.rate)};
-                choose_both(sides, limit);
-                if (said & 16)
-                    sweep_both(sides, limit);
-            }
-            break;
-        case 10:
-            now = move(script, now, sides->rows.rate);
-            break;
-        default:
-            arrive(script, &report, &arrival);
-            arrival.now = now;
-            datagram_both(sides, &arrival);
-            break;
-        }
+        call_one(script, sides, &state);
         if (sides->calls % 16 == 0)
             look(sides);
     }
-    choose_both(sides, now);
+    choose_both(sides, state.now);
     look(sides);
 }
 

@@ -245,17 +245,14 @@ void register_start_tally(struct plain_register *rows, size_t place, uint32_t ta
     note(rows, (struct answered_call){.source = rows->rows[place].source, .starts = true, .from = tally});
 }
 
-uint32_t register_tally_at(const struct plain_register *rows, size_t place)
+uint32_t register_last_tally(const struct plain_register *rows, uint32_t source)
 {
-    const struct row *row = register_row_at(rows, place);
     uint64_t tally = 0;
 
-    if (!row)
-        return 0;
     for (size_t i = rows->calls; i > 0; i--) {
         const struct answered_call *call = &rows->history[i - 1];
 
-        if (call->source != row->source)
+        if (call->source != source)
             continue;
         if (call->starts) {
             tally += call->from;
@@ -264,6 +261,13 @@ uint32_t register_tally_at(const struct plain_register *rows, size_t place)
         tally += call->number == 14;
     }
     return tally < TALLY_LIMIT ? (uint32_t)tally : TALLY_LIMIT;
+}
+
+uint32_t register_tally_at(const struct plain_register *rows, size_t place)
+{
+    const struct row *row = register_row_at(rows, place);
+
+    return row ? register_last_tally(rows, row->source) : 0;
 }
 
 void register_sweep(struct plain_register *rows, struct clocks now)
@@ -276,27 +280,44 @@ void register_sweep(struct plain_register *rows, struct clocks now)
     }
 }
 
-struct choice register_choose(const struct plain_register *rows, struct clocks now)
+/* No fresh row has P 1. */
+static bool arrival_mode(const struct plain_register *rows, struct clocks now)
 {
-    struct choice choice = {.number = 20};
-    const struct row *chosen = NULL;
-    whole latest = 0;
-    bool by_arrival = true;
-
     for (size_t place = 0; place < PLACES; place++) {
         const struct row *row = register_row_at(rows, place);
 
         if (row && row->report.p && fresh(rows, &row->report, now))
-            by_arrival = false;
+            return false;
     }
+    return true;
+}
+
+/* The target of the chosen row. */
+static void set_target(struct choice *choice, const struct row *chosen)
+{
+    choice->number = 0;
+    choice->source = chosen->source;
+    choice->group = chosen->report.group;
+    choice->media = chosen->report.media;
+    choice->received = chosen->report.received;
+    choice->rtp = chosen->report.rtp;
+    choice->presented = choice->by_arrival ? 0 : expanded(&chosen->report);
+    choice->same_slot = !choice->by_arrival && register_same_slot(&chosen->report);
+}
+
+struct choice register_choose(const struct plain_register *rows, struct clocks now)
+{
+    struct choice choice = {.number = 20, .by_arrival = arrival_mode(rows, now)};
+    const struct row *chosen = NULL;
+    whole latest = 0;
 
     for (size_t place = 0; place < PLACES; place++) {
         const struct row *row = register_row_at(rows, place);
 
-        if (!row || !fresh(rows, &row->report, now) || (!by_arrival && !row->report.p))
+        if (!row || !fresh(rows, &row->report, now) || (!choice.by_arrival && !row->report.p))
             continue;
         choice.counted++;
-        whole late = lateness(rows, &row->report, by_arrival, now);
+        whole late = lateness(rows, &row->report, choice.by_arrival, now);
         bool lower = REGISTER_FAULT != 1 && chosen && row->source < chosen->source;
         if (!chosen || late > latest) {
             choice.equally_late = 0;
@@ -310,17 +331,7 @@ struct choice register_choose(const struct plain_register *rows, struct clocks n
         }
         choice.latest[place] = late == latest;
     }
-    if (!chosen)
-        return choice;
-
-    choice.number = 0;
-    choice.source = chosen->source;
-    choice.group = chosen->report.group;
-    choice.media = chosen->report.media;
-    choice.received = chosen->report.received;
-    choice.rtp = chosen->report.rtp;
-    choice.presented = by_arrival ? 0 : expanded(&chosen->report);
-    choice.by_arrival = by_arrival;
-    choice.same_slot = !by_arrival && register_same_slot(&chosen->report);
+    if (chosen)
+        set_target(&choice, chosen);
     return choice;
 }

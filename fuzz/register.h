@@ -101,9 +101,12 @@ const struct row *register_row(const struct plain_register *rows, uint32_t sourc
 const struct row *register_row_at(const struct plain_register *rows, size_t place);
 
 /*
- * Of the calls that got 14 under a row's number behind its last joining, how many there are, cut at the limit. 0 where
- * no row stands at the place.
+ * Of the calls that got 14 under a number behind its last joining, how many there are, cut at the limit: the tally of
+ * its row, or where it has none, the one that its last row left with.
  */
+uint32_t register_last_tally(const struct plain_register *rows, uint32_t source);
+
+/* The tally of the row at a place, or 0 where no row stands there. */
 uint32_t register_tally_at(const struct plain_register *rows, size_t place);
 
 /* The row at a place has this tally from here on, whatever calls were before: a table value that C has written on. */
