@@ -397,6 +397,7 @@ static void count_14(enum tally_case raised_by, uint32_t tally)
 /* What a report got of another origin than the row's, or of the row's own; before, the row had this tally. */
 static void count_member_report(bool twin, unsigned number, uint32_t tally)
 {
+    /* A row's own report gets no other number. */
     static const enum tally_case own[NUMBERS] = {
         [0] = OWN_ACCEPTED, [13] = OWN_13, [15] = OWN_15, [16] = OWN_16, [17] = OWN_17,
     };

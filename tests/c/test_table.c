@@ -1563,9 +1563,9 @@ static void test_random_tables(void)
     check_true("accepted, or 18", judged_step_0[0] >= RANDOM_TABLES / 100);
     check_true("17 where received is all ones", judged_step_0[1] > 0);
 
-    CASE("14 was met on random tables, in one call of fifty or more");
-    check_true("below the limit", raised[0] >= RANDOM_TABLES / 50);
-    check_true("at the limit", raised[1] >= RANDOM_TABLES / 50);
+    CASE("14 was met on random tables, in one of a hundred reports and farewells or more");
+    check_true("below the limit", raised[0] >= 2 * RANDOM_TABLES / 100);
+    check_true("at the limit", raised[1] >= 2 * RANDOM_TABLES / 100);
     check_new_members_met();
 }
 

@@ -238,7 +238,6 @@ static void test_gone_tallies(void)
     }
 }
 
-/* Of others than the member. */
 static void test_leaving_of_others(void)
 {
     table_t full;
