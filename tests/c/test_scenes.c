@@ -492,7 +492,16 @@ static void step_place(void)
 
 static void step_tally(void)
 {
-    check_number(prunepocket_member_at(bench.table, number(asked[0])).member.tally);
+    place_t place = prunepocket_member_at(bench.table, number(asked[0]));
+    int is_none = is(due[0], "none");
+
+    check_equal("held", place.held, !is_none);
+    if (is_none) {
+        due_words(1);
+        check_equal("tally", place.member.tally, 0);
+    } else {
+        check_number(place.member.tally);
+    }
 }
 
 /* Members and target are as before the last call, but that one place, or none, has this tally. */
