@@ -16,6 +16,7 @@ use crate::members::{Call, Reading};
 use crate::places::{Joins, PLACES};
 use crate::register::step;
 use crate::table_values::{check_other_tallies, check_refused, with_tally};
+use crate::twins::AroundLimit;
 use prunepocket_sys::{Answered, DatagramAnswered, Place, Table};
 use std::slice::from_ref;
 
@@ -53,6 +54,7 @@ pub struct Counts {
     /// Members that were shown with a tally, and the greatest one.
     pub tallied: u64,
     pub greatest_tally: u32,
+    pub around_limit: AroundLimit,
     /// Settings that were passed by.
     pub settings: u64,
     /// Datagrams with an accepted call, and with calls of several answers.
@@ -182,6 +184,8 @@ impl IntakeComparison {
         self.counts.count_raised(&before, &sides.table);
         self.counts.joins.add(&sides.intake.joins);
         self.counts.rejoined += sides.intake.rejoined;
+        let around_limit = &mut self.counts.around_limit;
+        around_limit.add(&sides.intake.around_limit);
         if answer.number == 0 {
             self.counts.spare += arrival.length as u64 - answer.count;
         }

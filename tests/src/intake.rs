@@ -11,6 +11,7 @@ use crate::items::{Item, PlacedItem, Refusal};
 use crate::members::{Call, Choice, Member, Opening, Reading, Record, ReportFields};
 use crate::places::{self, count_held_with, lowest_free_with, Held, Joins, PLACES};
 use crate::register::{self, Register};
+use crate::twins::AroundLimit;
 
 #[derive(Clone, Copy, Debug, PartialEq, Eq)]
 pub enum Fault {
@@ -118,6 +119,8 @@ pub struct Intake {
     pub joins: Joins,
     /// Those among them whose number had a tally before.
     pub rejoined: u64,
+    /// Calls that got 14 since then.
+    pub around_limit: AroundLimit,
     fault: Option<Fault>,
     /// The flag of the first datagram, for the fault that keeps it.
     first_flag: Option<bool>,
@@ -139,6 +142,7 @@ impl Intake {
             used: [false; PLACES],
             joins: Joins::default(),
             rejoined: 0,
+            around_limit: AroundLimit::default(),
             fault,
             first_flag: None,
             last: [None; PLACES],
@@ -181,6 +185,9 @@ impl Intake {
 
     /// A single call: the refusal's number, or 0 where there is none.
     pub fn call(&mut self, call: &Call) -> u64 {
+        let tally = call
+            .source()
+            .map_or(0, |source| self.register.tally(source));
         let number = self.register.call(call);
         match (*call, number) {
             // 18 is the last check, and it is for the places to say.
@@ -190,6 +197,7 @@ impl Intake {
                 let rows: Vec<u32> = self.register.rows().iter().map(|row| row.source).collect();
                 self.keep_places(|held| rows.contains(&held));
             }
+            (_, 14) => self.around_limit.count(call, tally),
             _ => {}
         }
         number
@@ -225,6 +233,7 @@ impl Intake {
     pub fn take(&mut self, arrival: &Arrival, list: &mut [u64]) -> Answer {
         self.joins = Joins::default();
         self.rejoined = 0;
+        self.around_limit = AroundLimit::default();
         match decode(&arrival.datagram, self.flag(arrival.reduced_size)) {
             Ok(items) => self.take_items(arrival, &items, list),
             Err(refusal) => self.refuse(arrival, refusal, list.len()),

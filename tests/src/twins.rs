@@ -1,5 +1,6 @@
 //! What was met of twins, and of members that have a tally.
 
+use crate::call_history::TALLY_LIMIT;
 use crate::counts::{lines, Line};
 use crate::members::Call;
 use crate::places::PLACES;
@@ -27,6 +28,7 @@ pub struct Twins {
     /// Members shown with a tally.
     pub shown: u64,
     pub greatest: u32,
+    pub around_limit: AroundLimit,
     /// Choices compared on copies with other tallies.
     pub copies: u64,
 }
@@ -45,6 +47,7 @@ impl Twins {
         };
         let tallied = u64::from(member.tally > 0);
         match (call, number) {
+            (_, 14) => self.around_limit.count(call, member.tally),
             (Call::Farewell(..), 0) => self.left += tallied,
             (Call::Report(told, _), 13) if told.origin != member.record.origin => {
                 self.foreign += 1;
@@ -71,7 +74,7 @@ impl Twins {
         self.greatest = self.greatest.max(tally);
     }
 
-    /// All but the greatest tally.
+    /// All but the greatest tally, and what was met around the limit.
     pub fn lines(&self) -> Vec<Line> {
         let [elsewhere, same] = self.rejoined;
         lines([
@@ -87,6 +90,40 @@ impl Twins {
             ("the same, at another place", elsewhere),
             ("members with a tally", self.shown),
             ("choices with other tallies", self.copies),
+        ])
+    }
+}
+
+/// Reports and farewells that got 14 around the limit of the tally.
+#[derive(Clone, Copy, Debug, Default)]
+pub struct AroundLimit {
+    /// At one less than the limit, to which the tally is raised.
+    pub raised: [u64; 2],
+    /// At the limit, where it stays.
+    pub stayed: [u64; 2],
+}
+
+impl AroundLimit {
+    /// A call that got 14, and the holder's tally before it.
+    pub fn count(&mut self, call: &Call, tally: u32) {
+        let kind = usize::from(matches!(call, Call::Farewell(..)));
+        self.raised[kind] += u64::from(tally == TALLY_LIMIT - 1);
+        self.stayed[kind] += u64::from(tally == TALLY_LIMIT);
+    }
+
+    pub fn add(&mut self, more: &AroundLimit) {
+        for kind in 0..2 {
+            self.raised[kind] += more.raised[kind];
+            self.stayed[kind] += more.stayed[kind];
+        }
+    }
+
+    pub fn lines(&self) -> Vec<Line> {
+        lines([
+            ("report raises to the limit", self.raised[0]),
+            ("farewell raises to the limit", self.raised[1]),
+            ("report refused at the limit", self.stayed[0]),
+            ("farewell refused at the limit", self.stayed[1]),
         ])
     }
 }

@@ -3,10 +3,20 @@
 use prunepocket_tests::call_history::TALLY_LIMIT;
 use prunepocket_tests::compare_intake::{self, IntakeComparison};
 use prunepocket_tests::compare_table::{self, TableComparison};
+use prunepocket_tests::counts::Line;
 use prunepocket_tests::generator;
 use prunepocket_tests::limit_histories::{course, histories, TALLIES};
 
 const HEADER: &str = include_str!("../../include/prunepocket.h");
+
+/// Each thing has to be met so often by the calls, which are the same in every run.
+const LEAST: u64 = 100;
+
+fn ask(met: Vec<Line>, least: u64) {
+    for (name, times) in met {
+        assert!(times >= least, "{name}: met {times} times");
+    }
+}
 
 #[test]
 fn header_and_bindings_have_this_limit() {
@@ -25,9 +35,9 @@ fn calls_around_the_limit_are_answered_alike() {
             panic!("{difference}: {smallest:#?}");
         }
     }
-    let counts = &comparison.counts;
-    assert_eq!(counts.twins.greatest, TALLY_LIMIT);
-    assert!(counts.twins.lines().iter().all(|(_, times)| *times > 0));
+    let twins = &comparison.counts.twins;
+    ask(twins.lines(), LEAST);
+    ask(twins.around_limit.lines(), LEAST);
 }
 
 #[test]
@@ -41,7 +51,7 @@ fn datagrams_around_the_limit_are_taken_alike() {
         }
     }
     let counts = &comparison.counts;
-    assert_eq!(counts.greatest_tally, TALLY_LIMIT);
+    ask(counts.around_limit.lines(), 1);
     assert_eq!(counts.datagrams[0][1..], [0; 10]);
     assert!(counts.raising_again > 0 && counts.rejoined > 0);
     assert!(counts.calls.iter().all(|numbers| numbers[14] > 0));
