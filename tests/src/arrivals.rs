@@ -48,9 +48,11 @@ pub fn course(rng: &mut Rng) -> Course {
     });
     let mut events: Vec<Event> = calls.collect();
     for _ in 0..rng.between(1, MOST_EVENTS) {
-        events.push(match rng.chance(5) {
-            true => Event::Call(world.call(rng)),
-            false => Event::Arrival(arrival(rng, &mut world)),
+        events.push(match rng.below(100) {
+            0..=4 => Event::Call(world.call(rng)),
+            // So that members come back by datagrams after a sweep, too.
+            5..=7 => Event::Call(Call::Sweep(world.some_reading(rng))),
+            _ => Event::Arrival(arrival(rng, &mut world)),
         });
     }
     Course {

@@ -190,11 +190,4 @@ impl CallHistory {
         let refused = entry(Kind::Report, TWIN, tally.into());
         self.under.insert(source, vec![joining, refused]);
     }
-
-    /// Whether 14 was met under this number before its last joining.
-    pub fn had_tally(&self, source: u32) -> bool {
-        let entries = self.entries(source);
-        let mut before = entries[..self.since(entries)].iter();
-        before.any(|entry| entry.number == TWIN)
-    }
 }

@@ -10,13 +10,12 @@ use crate::compare_table::fewest;
 use crate::decoder::decode;
 use crate::first_packets::FirstPackets;
 use crate::generator::Rng;
-use crate::intake::{Answer, Fault, Intake};
+use crate::intake::{Answer, Fault, Intake, Met};
 use crate::items::{Item, Refusal};
 use crate::members::{Call, Reading};
-use crate::places::{Joins, PLACES};
+use crate::places::PLACES;
 use crate::register::step;
 use crate::table_values::{check_other_tallies, check_refused, with_tally};
-use crate::twins::AroundLimit;
 use prunepocket_sys::{Answered, DatagramAnswered, Place, Table};
 use std::slice::from_ref;
 
@@ -44,17 +43,14 @@ pub struct Counts {
     pub step_zero: u64,
     pub step_zero_accepted: u64,
     pub step_zero_refused: u64,
-    /// New members that the datagrams made, and those whose number had a tally
-    /// before.
-    pub joins: Joins,
-    pub rejoined: u64,
+    /// What the calls of datagrams met.
+    pub met: Met,
     /// Datagrams that raised a tally, and that raised one more than once.
     pub raising: u64,
     pub raising_again: u64,
     /// Members that were shown with a tally, and the greatest one.
     pub tallied: u64,
     pub greatest_tally: u32,
-    pub around_limit: AroundLimit,
     /// Settings that were passed by.
     pub settings: u64,
     /// Datagrams with an accepted call, and with calls of several answers.
@@ -182,10 +178,7 @@ impl IntakeComparison {
         let answer = self.check_take(sides, arrival)?;
         self.counts.count_answer(arrival, &answer);
         self.counts.count_raised(&before, &sides.table);
-        self.counts.joins.add(&sides.intake.joins);
-        self.counts.rejoined += sides.intake.rejoined;
-        let around_limit = &mut self.counts.around_limit;
-        around_limit.add(&sides.intake.around_limit);
+        self.counts.met.add(&sides.intake.met);
         if answer.number == 0 {
             self.counts.spare += arrival.length as u64 - answer.count;
         }

@@ -9,13 +9,13 @@ use crate::histories::{History, Step};
 use crate::members::{Call, Member, Opening, Reading, Record, ReportFields, Target};
 use crate::places::{self, count_held_with, lowest_free_with, Held, Joins, PLACES};
 use crate::register::{self, step, Register};
+use crate::rejoins::{self, Leavings};
 use crate::table_values::{check_other_tallies, check_refused, with_tally, COPIES};
 use crate::target::{AtReading, Seen};
 use crate::twins::Twins;
 use prunepocket_sys::{Answered, Place, Table};
 use std::array::from_fn;
 use std::cell::OnceCell;
-use std::collections::HashMap;
 
 /// Kinds of calls, as columns of a count.
 pub const KINDS: [&str; 5] = ["open", "report", "farewell", "sweep", "choose"];
@@ -25,6 +25,7 @@ pub const KINDS: [&str; 5] = ["open", "report", "farewell", "sweep", "choose"];
 pub enum Fault {
     Register(register::Fault),
     Places(places::Fault),
+    Rejoins(rejoins::Fault),
 }
 
 /// How often each thing was met.
@@ -143,8 +144,7 @@ struct Sides {
     register: Register,
     /// The places that have had a member.
     used: Held,
-    /// The place that each number's last member took.
-    taken: HashMap<u32, usize>,
+    leavings: Leavings,
 }
 
 pub struct TableComparison {
@@ -173,6 +173,13 @@ impl TableComparison {
     fn places_fault(&self) -> Option<places::Fault> {
         match self.fault {
             Some(Fault::Places(fault)) => Some(fault),
+            _ => None,
+        }
+    }
+
+    fn rejoins_fault(&self) -> Option<rejoins::Fault> {
+        match self.fault {
+            Some(Fault::Rejoins(fault)) => Some(fault),
             _ => None,
         }
     }
@@ -207,7 +214,7 @@ impl TableComparison {
             shown: Shown::new(table),
             register,
             used: [false; PLACES],
-            taken: HashMap::new(),
+            leavings: Leavings::default(),
         }))
     }
 
@@ -234,6 +241,7 @@ impl TableComparison {
         }
         let twins = &mut self.counts.twins;
         twins.count(&sides.shown.table, call, number, &table);
+        sides.leavings.add_all(call, &sides.shown.table, &table);
         let after = Shown::new(table);
         if let Call::Report(told, _) = call {
             self.counts.step_zero.count(&told.report, number);
@@ -264,13 +272,15 @@ impl TableComparison {
         same(format_args!("a new member"), &number, &expected)?;
         let mut places = *sides.shown.places();
         if let Some(place) = free {
-            let (record, tally) = (*told, 0);
-            let member = Member { record, tally };
+            let leavings = &sides.leavings;
+            let member = Member {
+                record: *told,
+                tally: leavings.first_tally(told.source, place, self.rejoins_fault()),
+            };
             places[place] = Place { held: 1, member };
             self.counts.joins.count(&held, &mut sides.used, place);
-            let taken = sides.taken.insert(told.source, place);
-            let rejoined = &mut self.counts.twins.rejoined[usize::from(taken == Some(place))];
-            *rejoined += u64::from(sides.register.had_tally(told.source));
+            let rejoins = &mut self.counts.twins.rejoins;
+            rejoins.count(leavings, told.source, place);
         }
         for (place, (shown, expected)) in after.places().iter().zip(&places).enumerate() {
             same(format_args!("place {place}"), shown, expected)?;

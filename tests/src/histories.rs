@@ -151,10 +151,10 @@ impl Temper {
     fn twinned(rng: &mut Rng) -> Self {
         Temper {
             length: rng.between(50, 400),
-            sources: rng.pick(&[1, 2, 4, 12, 66]),
+            sources: rng.pick(&[2, 4, 8, 12, 66]),
             origins: rng.pick(&[2, 3, 8]),
             twinned: rng.pick(&[1, 2, 4]),
-            twins: rng.pick(&[50, 70, 90]),
+            twins: rng.pick(&[40, 60, 90]),
             edges: rng.pick(&[2, 20]),
             farewells: rng.pick(&[5, 20, 40]),
             sweeps: rng.pick(&[1, 4]),

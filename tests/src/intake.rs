@@ -11,6 +11,7 @@ use crate::items::{Item, PlacedItem, Refusal};
 use crate::members::{Call, Choice, Member, Opening, Reading, Record, ReportFields};
 use crate::places::{self, count_held_with, lowest_free_with, Held, Joins, PLACES};
 use crate::register::{self, Register};
+use crate::rejoins::{self, Leaving, Leavings, LeftBy, Rejoins};
 use crate::twins::AroundLimit;
 
 #[derive(Clone, Copy, Debug, PartialEq, Eq)]
@@ -49,17 +50,17 @@ pub enum Fault {
     FlagTakenAsSet,
     /// The decoder is told what was said with the first datagram.
     FlagKept,
-    /// A new member starts with the tally of the last one at its place.
-    TallyKeptByPlace,
     /// The rule of places errs.
     Places(places::Fault),
+    /// A new member's tally errs.
+    Rejoins(rejoins::Fault),
     /// The register errs.
     Register(register::Fault),
 }
 
 impl Fault {
-    /// All but those of the places and of the register.
-    pub const ALL: [Fault; 18] = [
+    /// All but those of the places, of new members' tallies and of the register.
+    pub const ALL: [Fault; 17] = [
         Fault::SettingsCounted,
         Fault::SettingsFiled,
         Fault::FarewellsFirst,
@@ -77,7 +78,6 @@ impl Fault {
         Fault::FlagNotPassedOn,
         Fault::FlagTakenAsSet,
         Fault::FlagKept,
-        Fault::TallyKeptByPlace,
     ];
 }
 
@@ -115,17 +115,28 @@ pub struct Intake {
     places: [Option<u32>; PLACES],
     /// The places that have had a member.
     used: Held,
-    /// New members since the last datagram came.
-    pub joins: Joins,
-    /// Those among them whose number had a tally before.
-    pub rejoined: u64,
-    /// Calls that got 14 since then.
-    pub around_limit: AroundLimit,
+    leavings: Leavings,
+    /// What was met since the last datagram came.
+    pub met: Met,
     fault: Option<Fault>,
     /// The flag of the first datagram, for the fault that keeps it.
     first_flag: Option<bool>,
-    /// The source that last stood at each place, for the fault that keeps its tally.
-    last: [Option<u32>; PLACES],
+}
+
+/// What the calls met: new members, and answers of 14.
+#[derive(Clone, Copy, Debug, Default)]
+pub struct Met {
+    pub joins: Joins,
+    pub rejoins: Rejoins,
+    pub around_limit: AroundLimit,
+}
+
+impl Met {
+    pub fn add(&mut self, more: &Met) {
+        self.joins.add(&more.joins);
+        self.rejoins.add(&more.rejoins);
+        self.around_limit.add(&more.around_limit);
+    }
 }
 
 impl Intake {
@@ -140,12 +151,10 @@ impl Intake {
             register,
             places: [None; PLACES],
             used: [false; PLACES],
-            joins: Joins::default(),
-            rejoined: 0,
-            around_limit: AroundLimit::default(),
+            leavings: Leavings::default(),
+            met: Met::default(),
             fault,
             first_flag: None,
-            last: [None; PLACES],
         })
     }
 
@@ -192,12 +201,14 @@ impl Intake {
         match (*call, number) {
             // 18 is the last check, and it is for the places to say.
             (Call::Report(told, _), 0 | 18) => return self.take_place(told.source),
-            (Call::Farewell(source, _), 0) => self.keep_places(|held| held != source),
+            (Call::Farewell(source, _), 0) => {
+                self.keep_places(LeftBy::Farewell, |held| held != source);
+            }
             (Call::Sweep(_), 0) => {
                 let rows: Vec<u32> = self.register.rows().iter().map(|row| row.source).collect();
-                self.keep_places(|held| rows.contains(&held));
+                self.keep_places(LeftBy::Sweep, |held| rows.contains(&held));
             }
-            (_, 14) => self.around_limit.count(call, tally),
+            (_, 14) => self.met.around_limit.count(call, tally),
             _ => {}
         }
         number
@@ -212,28 +223,35 @@ impl Intake {
         let Some(place) = lowest_free_with(&held, self.places_fault()) else {
             return 18;
         };
-        self.joins.count(&held, &mut self.used, place);
-        self.rejoined += u64::from(self.register.had_tally(source));
+        self.met.joins.count(&held, &mut self.used, place);
+        self.met.rejoins.count(&self.leavings, source, place);
         self.places[place] = Some(source);
-        let last = self.last[place].replace(source);
-        if let (Some(last), true) = (last, self.planted(Fault::TallyKeptByPlace)) {
-            let tally = self.register.tally(last);
+        if let Some(Fault::Rejoins(fault)) = self.fault {
+            let tally = self.leavings.first_tally(source, place, Some(fault));
             self.register.set_tally(source, tally);
         }
         0
     }
 
-    fn keep_places(&mut self, keeps: impl Fn(u32) -> bool) {
-        for place in &mut self.places {
-            *place = place.filter(|&source| keeps(source));
+    fn keep_places(&mut self, by: LeftBy, keeps: impl Fn(u32) -> bool) {
+        for (place, held) in self.places.iter_mut().enumerate() {
+            let Some(source) = held.filter(|&source| !keeps(source)) else {
+                continue;
+            };
+            let tally = self.register.tally(source);
+            self.leavings.add(Leaving {
+                by,
+                source,
+                place,
+                tally,
+            });
+            *held = None;
         }
     }
 
     /// Takes a whole datagram, with this list for the calls' numbers.
     pub fn take(&mut self, arrival: &Arrival, list: &mut [u64]) -> Answer {
-        self.joins = Joins::default();
-        self.rejoined = 0;
-        self.around_limit = AroundLimit::default();
+        self.met = Met::default();
         match decode(&arrival.datagram, self.flag(arrival.reduced_size)) {
             Ok(items) => self.take_items(arrival, &items, list),
             Err(refusal) => self.refuse(arrival, refusal, list.len()),

@@ -23,6 +23,7 @@ pub mod limit_histories;
 pub mod members;
 pub mod places;
 pub mod register;
+pub mod rejoins;
 pub mod scenes;
 pub mod sides;
 pub mod site_lines;

@@ -35,8 +35,12 @@ const NUMBER: u32 = 20;
 const OWN: u16 = 5000;
 const TWIN: u16 = 6000;
 
-/// When the members join, and how long after a sweep takes them all out.
+/// When the members join.
 const START: u32 = 1000;
+
+/// How long after a sweep takes out all members but the first, which received a
+/// second later than the others, and how long after one takes out all.
+const FIRST_FRESH: u32 = 30;
 const STALE: u32 = 40;
 
 /// How many acts follow on each other.
@@ -53,13 +57,15 @@ enum Act {
     Old,
     OldMedia,
     Late,
-    /// A farewell of the last member's twin.
+    /// A farewell of the last member's twin, and one of the first member.
     TwinOfAnother,
+    FirstLeaves,
     Sweep,
+    SweepAllButFirst,
     SweepAllOut,
 }
 
-const ALL: [Act; 12] = [
+const ALL: [Act; 14] = [
     Act::Report(OWN),
     Act::Report(TWIN),
     Act::Farewell(OWN),
@@ -70,7 +76,9 @@ const ALL: [Act; 12] = [
     Act::OldMedia,
     Act::Late,
     Act::TwinOfAnother,
+    Act::FirstLeaves,
     Act::Sweep,
+    Act::SweepAllButFirst,
     Act::SweepAllOut,
 ];
 
@@ -107,23 +115,25 @@ fn record(source: u32, port: u16, seconds: u32) -> Record {
 
 /// The calls that lead to the table: the member in question is in the middle.
 fn joinings() -> [Call; 3] {
-    let [(before, _), (behind, _)] = OTHERS;
-    [before, NUMBER, behind]
-        .map(|source| Call::Report(record(source, OWN, START - 1), reading(START)))
+    let [(first, _), (last, _)] = OTHERS;
+    [(first, START), (NUMBER, START - 1), (last, START - 1)]
+        .map(|(source, received)| Call::Report(record(source, OWN, received), reading(START)))
 }
 
 /// The tallies that are written then, by number.
 fn written(tally: u32) -> [(u32, u32); 3] {
-    let [before, behind] = OTHERS;
-    [before, (NUMBER, tally), behind]
+    let [first, last] = OTHERS;
+    [first, (NUMBER, tally), last]
 }
 
 impl Act {
-    /// The call at the clock, which the last act may move.
+    /// The call at the clock, which two of the sweeps move.
     fn call(self, clock: &mut u32) -> Call {
-        if let Act::SweepAllOut = self {
-            *clock += STALE;
-        }
+        *clock += match self {
+            Act::SweepAllButFirst => FIRST_FRESH,
+            Act::SweepAllOut => STALE,
+            _ => 0,
+        };
         let now = reading(*clock);
         let mut told = record(NUMBER, OWN, *clock - 1);
         match self {
@@ -137,7 +147,8 @@ impl Act {
             Act::Late => told.report.presented += STALE << 16,
             Act::Farewell(port) => return Call::Farewell(NUMBER, origin(port)),
             Act::TwinOfAnother => return Call::Farewell(OTHERS[1].0, origin(TWIN)),
-            Act::Sweep | Act::SweepAllOut => return Call::Sweep(now),
+            Act::FirstLeaves => return Call::Farewell(OTHERS[0].0, origin(OWN)),
+            Act::Sweep | Act::SweepAllButFirst | Act::SweepAllOut => return Call::Sweep(now),
         }
         Call::Report(told, now)
     }
@@ -164,45 +175,73 @@ fn history(tally: u32, acts: impl Iterator<Item = Act>) -> History {
     }
 }
 
-/// Datagrams from the twin and from the holder, which leaves and comes back, from a
+/// Part of a course: a call, then datagrams, with number, port and items of each.
+type Part = (Act, &'static [(u32, u16, &'static str)]);
+
+/// The member in question leaves and comes back: by farewell to the same place, by
+/// sweep to the same and to another, and by farewell to another, since the first
+/// member has come back before it.
+const PARTS: [Part; 4] = [
+    (
+        Act::Sweep,
+        &[
+            (NUMBER, TWIN, "RF"),
+            (NUMBER, OWN, "R"),
+            (NUMBER, TWIN, "FFRR"),
+            (NUMBER, OWN, "FR"),
+            (NUMBER, TWIN, "RRF"),
+            (NUMBER, OWN, "F"),
+            (NUMBER, TWIN, "R"),
+            (NUMBER, OWN, "RFR"),
+        ],
+    ),
+    (
+        Act::SweepAllButFirst,
+        &[(NUMBER, OWN, "R"), (NUMBER, TWIN, "FR")],
+    ),
+    (
+        Act::SweepAllOut,
+        &[(NUMBER, OWN, "R"), (NUMBER, TWIN, "RF"), (NUMBER, OWN, "F")],
+    ),
+    (Act::Sweep, &[(OTHERS[0].0, OWN, "R"), (NUMBER, OWN, "R")]),
+];
+
+/// Datagrams from the twin and from the holder, with sweeps between them, from a
 /// tally on.
 pub fn course(tally: u32) -> Course {
-    let arrivals = [
-        (TWIN, "RF"),
-        (OWN, "R"),
-        (TWIN, "FFRR"),
-        (OWN, "FR"),
-        (TWIN, "RRF"),
-        (OWN, "F"),
-        (TWIN, "R"),
-        (OWN, "RFR"),
-    ];
+    let mut clock = START;
     let mut events: Vec<Event> = joinings().map(Event::Call).into();
     events.extend(written(tally).map(|(source, tally)| Event::SetTally(source, tally)));
-    events.extend(arrivals.map(|(port, items)| Event::Arrival(arrival(port, items))));
+    for (act, datagrams) in PARTS {
+        events.push(Event::Call(act.call(&mut clock)));
+        let arrivals = datagrams.iter().map(|(source, port, items)| {
+            Event::Arrival(arrival(&record(*source, *port, clock - 1), items, clock))
+        });
+        events.extend(arrivals);
+    }
     Course {
         opening: OPENING,
         events,
     }
 }
 
-/// An RR, then a report for each R and a farewell for each F.
-fn arrival(port: u16, items: &str) -> Arrival {
+/// An RR, then this report for each R and a farewell for each F.
+fn arrival(told: &Record, items: &str, clock: u32) -> Arrival {
     let words = |words: [u32; 2]| words.map(u32::to_be_bytes).concat();
-    let mut datagram = words([0x80C9_0001, NUMBER]);
+    let mut datagram = words([0x80C9_0001, told.source]);
     for item in items.bytes() {
         datagram.extend(match item {
-            b'R' => written_report(&record(NUMBER, port, START - 1)),
-            _ => words([0x81CB_0001, NUMBER]),
+            b'R' => written_report(told),
+            _ => words([0x81CB_0001, told.source]),
         });
     }
     Arrival {
         datagram,
         reduced_size: false,
-        origin: origin(port),
-        reading: reading(START),
+        origin: told.origin,
+        reading: reading(clock),
         length: items.len(),
-        choice: reading(START),
+        choice: reading(clock),
     }
 }
 

@@ -241,11 +241,6 @@ impl Register {
         self.calls.set_tally(source, tally);
     }
 
-    /// Whether a member with this number had a tally, and left.
-    pub fn had_tally(&self, source: u32) -> bool {
-        self.calls.had_tally(source)
-    }
-
     /// The refusal's number, or 0 where there is none.
     pub fn call(&mut self, call: &Call) -> u64 {
         let before = Before {

@@ -4,6 +4,7 @@ use crate::call_history::TALLY_LIMIT;
 use crate::counts::{lines, Line};
 use crate::members::Call;
 use crate::places::PLACES;
+use crate::rejoins::Rejoins;
 use crate::table_values::{holder, is_held};
 use prunepocket_sys::Table;
 
@@ -22,9 +23,7 @@ pub struct Twins {
     pub outlasted: u64,
     pub left: u64,
     pub swept: u64,
-    /// New members whose number had a tally before, by whether they came back to
-    /// its place.
-    pub rejoined: [u64; 2],
+    pub rejoins: Rejoins,
     /// Members shown with a tally.
     pub shown: u64,
     pub greatest: u32,
@@ -76,8 +75,7 @@ impl Twins {
 
     /// All but the greatest tally, and what was met around the limit.
     pub fn lines(&self) -> Vec<Line> {
-        let [elsewhere, same] = self.rejoined;
-        lines([
+        let mut met = lines([
             ("reports refused 14", self.reports),
             ("farewells refused 14", self.farewells),
             ("twins' reports refused 13", self.foreign),
@@ -86,11 +84,11 @@ impl Twins {
             ("tally, outlasts a sweep", self.outlasted),
             ("tally, leaves by farewell", self.left),
             ("tally, is swept out", self.swept),
-            ("rejoins after a tally, there", same),
-            ("the same, at another place", elsewhere),
             ("members with a tally", self.shown),
             ("choices with other tallies", self.copies),
-        ])
+        ]);
+        met.extend(self.rejoins.lines());
+        met
     }
 }
 

@@ -1,6 +1,6 @@
 //! Plants each fault in the decoder, in the encoder, in the reader and writer of
-//! site files' lines, in the register, in the tallies, in the rule of places and in
-//! the intake, and asserts that the comparison finds it.
+//! site files' lines, in the register, in the tallies, in those of new members, in the
+//! rule of places and in the intake, and asserts that the comparison finds it.
 
 use prunepocket_tests::arrivals::Course;
 use prunepocket_tests::call_history::TALLY_LIMIT;
@@ -12,8 +12,8 @@ use prunepocket_tests::compare_writers::WriterComparison;
 use prunepocket_tests::encoder::Message;
 use prunepocket_tests::generator::{self, Rng};
 use prunepocket_tests::histories::History;
-use prunepocket_tests::{arrivals, histories, limit_histories, site_lines};
-use prunepocket_tests::{call_history, decoder, encoder, intake, places, register, sync_group};
+use prunepocket_tests::{arrivals, histories, limit_histories, site_lines, sync_group};
+use prunepocket_tests::{call_history, decoder, encoder, intake, places, register, rejoins};
 use std::borrow::Borrow;
 use std::fmt::Debug;
 use std::iter::once;
@@ -51,6 +51,7 @@ fn main() {
         missed |= !print_found(fault, "history", in_histories(seed, planted));
     }
     missed |= !tallies_find_all(seed);
+    missed |= !rejoins_find_all(seed);
     missed |= !places_find_all(seed);
     for fault in intake::Fault::ALL {
         missed |= !print_found(fault, "course", in_courses(seed, fault));
@@ -101,6 +102,23 @@ fn tallies_find_all(seed: u64) -> bool {
             let in_course = in_these_courses(seed, of_intake(fault), course);
             found &= print_found(fault, "limit", in_course);
         }
+    }
+    found
+}
+
+/// Each fault of new members' tallies is found in histories, and again in courses:
+/// those of the generator, and those from a written tally on.
+fn rejoins_find_all(seed: u64) -> bool {
+    let mut found = true;
+    for fault in rejoins::Fault::ALL {
+        let of_table = compare_table::Fault::Rejoins(fault);
+        let of_intake = intake::Fault::Rejoins(fault);
+        found &= print_found(fault, "history", in_histories(seed, of_table));
+        found &= print_found(fault, "course", in_courses(seed, of_intake));
+        let acts = limit_histories::histories(TALLY_LIMIT);
+        found &= print_found(fault, "limit", in_these_histories(seed, of_table, acts));
+        let course = once(limit_histories::course(TALLY_LIMIT));
+        found &= print_found(fault, "limit", in_these_courses(seed, of_intake, course));
     }
     found
 }

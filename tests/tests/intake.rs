@@ -111,14 +111,14 @@ fn others(counts: &Counts) -> Vec<Line> {
         ("targets", counts.targets),
         ("choices refused 20", counts.none_fresh),
     ]);
-    others.extend(counts.joins.lines());
+    others.extend(counts.met.joins.lines());
+    others.extend(counts.met.rejoins.lines());
     others.extend(of_twins(counts));
     others
 }
 
 fn of_twins(counts: &Counts) -> Vec<Line> {
     lines([
-        ("new, had a tally before", counts.rejoined),
         ("datagrams that raise a tally", counts.raising),
         ("the same, by more than one", counts.raising_again),
         ("members with a tally", counts.tallied),

@@ -9,8 +9,8 @@ use prunepocket_tests::limit_histories::{course, histories, TALLIES};
 
 const HEADER: &str = include_str!("../../include/prunepocket.h");
 
-/// Each thing has to be met so often by the calls, which are the same in every run.
-const LEAST: u64 = 100;
+/// Each thing has to be met so often in the histories, which are the same in every run.
+const LEAST: u64 = 20;
 
 fn ask(met: Vec<Line>, least: u64) {
     for (name, times) in met {
@@ -51,8 +51,9 @@ fn datagrams_around_the_limit_are_taken_alike() {
         }
     }
     let counts = &comparison.counts;
-    ask(counts.around_limit.lines(), 1);
+    ask(counts.met.around_limit.lines(), 1);
+    ask(counts.met.rejoins.lines(), 1);
     assert_eq!(counts.datagrams[0][1..], [0; 10]);
-    assert!(counts.raising_again > 0 && counts.rejoined > 0);
+    assert!(counts.raising_again > 0);
     assert!(counts.calls.iter().all(|numbers| numbers[14] > 0));
 }
