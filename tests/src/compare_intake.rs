@@ -164,7 +164,8 @@ impl IntakeComparison {
                 Event::Call(call) => check_call(&mut sides, call),
                 Event::Arrival(arrival) => self.check_arrival(&mut sides, arrival),
                 Event::SetTally(source, tally) => {
-                    set_tally(&mut sides, *source, *tally);
+                    sides.table = with_tally(&sides.table, *source, *tally);
+                    sides.intake.set_tally(*source, *tally);
                     Ok(())
                 }
             };
@@ -301,15 +302,6 @@ fn check_call(sides: &mut Sides, call: &Call) -> Verdict {
     }
     sides.table = table;
     Ok(())
-}
-
-/// Both sides are as if the member with this number, if there is one, had this
-/// tally.
-fn set_tally(sides: &mut Sides, source: u32, tally: u32) {
-    if let Some(table) = with_tally(&sides.table, source, tally) {
-        sides.table = table;
-        sides.intake.set_tally(source, tally);
-    }
 }
 
 /// The list and what stands around it, after a call.

@@ -10,7 +10,7 @@ use crate::members::{Call, Member, Opening, Reading, Record, ReportFields, Targe
 use crate::places::{self, count_held_with, lowest_free_with, Held, Joins, PLACES};
 use crate::register::{self, step, Register};
 use crate::rejoins::{self, Leavings};
-use crate::table_values::{check_other_tallies, check_refused, with_tally, COPIES};
+use crate::table_values::{check_other_tallies, check_refused, is_held, with_tally, COPIES};
 use crate::target::{AtReading, Seen};
 use crate::twins::Twins;
 use prunepocket_sys::{Answered, Place, Table};
@@ -126,7 +126,7 @@ impl Shown {
     /// The word marks the places with a member; any other shows zeros.
     fn check_places(&self) -> Verdict {
         for (place, shown) in self.places().iter().enumerate() {
-            let held = (self.table.held >> place) as u32 & 1;
+            let held = u32::from(is_held(&self.table, place));
             same(format_args!("whether {place} is held"), &shown.held, &held)?;
             if held == 0 {
                 let free = Place::default();
@@ -224,7 +224,9 @@ impl TableComparison {
             Step::Choose(reading) => self.check_choice(sides, reading),
             Step::Members => self.check_members(sides),
             Step::SetTally(source, tally) => {
-                set_tally(sides, *source, *tally);
+                let table = with_tally(&sides.shown.table, *source, *tally);
+                sides.shown = Shown::new(table);
+                sides.register.set_tally(*source, *tally);
                 Ok(())
             }
         }
@@ -382,15 +384,6 @@ impl Targets {
         self.wired += u64::from(seen.wired);
         self.beside_wired += u64::from(seen.beside_wired);
         self.unit_apart += u64::from(seen.unit_apart);
-    }
-}
-
-/// Both sides are as if the member with this number, if there is one, had this
-/// tally.
-fn set_tally(sides: &mut Sides, source: u32, tally: u32) {
-    if let Some(table) = with_tally(&sides.shown.table, source, tally) {
-        sides.shown = Shown::new(table);
-        sides.register.set_tally(source, tally);
     }
 }
 

@@ -22,6 +22,7 @@ pub mod items;
 pub mod limit_histories;
 pub mod members;
 pub mod places;
+pub mod plain_reports;
 pub mod register;
 pub mod rejoins;
 pub mod scenes;

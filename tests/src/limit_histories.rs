@@ -5,13 +5,8 @@ use crate::arrivals::{Arrival, Course, Event};
 use crate::call_history::TALLY_LIMIT;
 use crate::encoder::Message;
 use crate::histories::{History, Step};
-use crate::members::{Call, Opening, Origin, Reading, Record, ReportFields};
-
-const OPENING: Opening = Opening {
-    group: 42,
-    media: 7,
-    rate: 90_000,
-};
+use crate::members::{Call, Record};
+use crate::plain_reports::{origin, reading, record, OPENING};
 
 /// The tallies that are written: also before a carry into another byte or the sign.
 pub const TALLIES: [u32; 8] = [
@@ -81,37 +76,6 @@ const ALL: [Act; 14] = [
     Act::SweepAllButFirst,
     Act::SweepAllOut,
 ];
-
-/// The clocks after so many seconds.
-fn reading(seconds: u32) -> Reading {
-    Reading {
-        ntp: u64::from(seconds) << 32,
-        rtp: seconds * OPENING.rate,
-    }
-}
-
-fn origin(port: u16) -> Origin {
-    let address = [7; 16];
-    Origin { address, port }
-}
-
-/// Received then, and presented half a second later.
-fn record(source: u32, port: u16, seconds: u32) -> Record {
-    let received = reading(seconds);
-    Record {
-        source,
-        origin: origin(port),
-        report: ReportFields {
-            received: received.ntp,
-            group: OPENING.group,
-            media: OPENING.media,
-            rtp: received.rtp,
-            presented: (seconds << 16) + (1 << 15),
-            payload_type: 33,
-            p: 1,
-        },
-    }
-}
 
 /// The calls that lead to the table: the member in question is in the middle.
 fn joinings() -> [Call; 3] {

@@ -107,57 +107,60 @@ pub enum Fault {
 }
 
 impl Fault {
+    /// Those that err in one way, or by one unit more or less.
+    const PLAIN: [Fault; 44] = [
+        Fault::GroupZeroOpened,
+        Fault::LastGroupOpened,
+        Fault::RateZeroOpened,
+        Fault::FastRateOpened,
+        Fault::GroupIgnored,
+        Fault::MediaIgnored,
+        Fault::OriginUnchecked,
+        Fault::PortIgnored,
+        Fault::NtpPlain,
+        Fault::RtpPlain,
+        Fault::NtpLimit(-1),
+        Fault::NtpLimit(1),
+        Fault::RtpLimit(-1),
+        Fault::RtpLimit(1),
+        Fault::DelayLimit(-1),
+        Fault::DelayLimit(1),
+        Fault::StepZeroFullTurn,
+        Fault::StepZeroNoDelay,
+        Fault::StepZeroUnmoved,
+        Fault::StepZeroNotWrapped,
+        Fault::StepZeroLowBitsCleared,
+        Fault::ExpandedZeroTaken,
+        Fault::SeventeenWithoutP,
+        Fault::Rows(63),
+        Fault::Rows(65),
+        Fault::FirstReportStands,
+        Fault::EarlierReportDropped,
+        Fault::RefusedReportFiled,
+        Fault::TwinFarewellRemoves,
+        Fault::FarewellKeepsRow,
+        Fault::UnheldFarewellTaken,
+        Fault::SweepKeepsStale,
+        Fault::SweepClearsFresh,
+        Fault::StaleCounted,
+        Fault::ArrivalCountedToo,
+        Fault::RtpInMilliseconds,
+        Fault::DelayIgnored,
+        Fault::EarliestChosen,
+        Fault::HighestOnTie,
+        Fault::GreatestTallyOnTie,
+        Fault::LeastTallyOnTie,
+        Fault::CountOneMore,
+        Fault::PresentedShort,
+        Fault::PresentedInArrival,
+    ];
+
     /// All but those of the tallies.
     pub fn all() -> Vec<Fault> {
-        let plain = [
-            Fault::GroupZeroOpened,
-            Fault::LastGroupOpened,
-            Fault::RateZeroOpened,
-            Fault::FastRateOpened,
-            Fault::GroupIgnored,
-            Fault::MediaIgnored,
-            Fault::OriginUnchecked,
-            Fault::PortIgnored,
-            Fault::NtpPlain,
-            Fault::RtpPlain,
-            Fault::NtpLimit(-1),
-            Fault::NtpLimit(1),
-            Fault::RtpLimit(-1),
-            Fault::RtpLimit(1),
-            Fault::DelayLimit(-1),
-            Fault::DelayLimit(1),
-            Fault::StepZeroFullTurn,
-            Fault::StepZeroNoDelay,
-            Fault::StepZeroUnmoved,
-            Fault::StepZeroNotWrapped,
-            Fault::StepZeroLowBitsCleared,
-            Fault::ExpandedZeroTaken,
-            Fault::SeventeenWithoutP,
-            Fault::Rows(63),
-            Fault::Rows(65),
-            Fault::FirstReportStands,
-            Fault::EarlierReportDropped,
-            Fault::RefusedReportFiled,
-            Fault::TwinFarewellRemoves,
-            Fault::FarewellKeepsRow,
-            Fault::UnheldFarewellTaken,
-            Fault::SweepKeepsStale,
-            Fault::SweepClearsFresh,
-            Fault::StaleCounted,
-            Fault::ArrivalCountedToo,
-            Fault::RtpInMilliseconds,
-            Fault::DelayIgnored,
-            Fault::EarliestChosen,
-            Fault::HighestOnTie,
-            Fault::GreatestTallyOnTie,
-            Fault::LeastTallyOnTie,
-            Fault::CountOneMore,
-            Fault::PresentedShort,
-            Fault::PresentedInArrival,
-        ];
         let swaps = (13..18).map(Fault::Swapped);
         let bytes = (0..ORIGIN_BYTES).map(Fault::OriginByteIgnored);
-        plain.into_iter().chain(swaps).chain(bytes).collect()
+        let plain = Fault::PLAIN.into_iter();
+        plain.chain(swaps).chain(bytes).collect()
     }
 }
 
@@ -235,10 +238,12 @@ impl Register {
         self.calls.tally(source)
     }
 
-    /// As if the number of a row had been refused with 14 so often since its
-    /// member joined.
+    /// As if this number, where a row has it, had been refused with 14 so often
+    /// since its member joined.
     pub fn set_tally(&mut self, source: u32, tally: u32) {
-        self.calls.set_tally(source, tally);
+        if self.row(source).is_some() {
+            self.calls.set_tally(source, tally);
+        }
     }
 
     /// The refusal's number, or 0 where there is none.

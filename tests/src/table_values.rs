@@ -26,10 +26,12 @@ pub fn holder(table: &Table, source: u32) -> Option<usize> {
 }
 
 /// The table with this tally of the member with this number, if there is one.
-pub fn with_tally(table: &Table, source: u32, tally: u32) -> Option<Table> {
+pub fn with_tally(table: &Table, source: u32, tally: u32) -> Table {
     let mut written = *table;
-    written.members[holder(table, source)?].tally = tally;
-    Some(written)
+    if let Some(place) = holder(table, source) {
+        written.members[place].tally = tally;
+    }
+    written
 }
 
 /// After a refusal all fields are as before, but for the holder's tally after 14:
@@ -92,45 +94,28 @@ fn with_tallies(table: &Table, mut tally: impl FnMut() -> u32) -> Table {
 #[cfg(test)]
 mod tests {
     use super::*;
+    use crate::archive;
     use crate::generator;
-    use crate::members::{Member, Origin, Record, ReportFields};
+    use crate::members::Member;
+    use crate::plain_reports::{reading, record, OPENING};
 
-    const READING: Reading = Reading {
-        ntp: 1000 << 32,
-        rtp: 9_000_000,
-    };
+    /// When the reports arrive, and when they were received.
+    const NOW: u32 = 1000;
+    const RECEIVED: u32 = 999;
 
-    /// Every source's report is as late as the others'.
-    fn record(source: u32) -> Record {
-        let report = ReportFields {
-            received: 999 << 32,
-            group: 42,
-            media: 7,
-            rtp: 8_910_000,
-            presented: 0x03E7_8000,
-            payload_type: 33,
-            p: 1,
-        };
-        let origin = Origin::default();
-        Record {
-            source,
-            origin,
-            report,
-        }
-    }
+    const OWN: u16 = 5000;
+    const TWIN: u16 = 6000;
 
     fn twin(source: u32) -> Call {
-        let mut told = record(source);
-        told.origin.port += 1;
-        Call::Report(told, READING)
+        Call::Report(record(source, TWIN, RECEIVED), reading(NOW))
     }
 
     /// With sources 1 to 3, of these tallies.
     fn table(tallies: [u32; 3]) -> Table {
-        let mut table = Table::open(42, 7, 90_000).expect("it opens");
+        let mut table = archive::open(&OPENING).expect("it opens");
         for (source, tally) in (1..).zip(tallies) {
             table.members[source as usize - 1] = Member {
-                record: record(source),
+                record: record(source, OWN, RECEIVED),
                 tally,
             };
         }
@@ -195,14 +180,14 @@ mod tests {
     fn is_found(choose: fn(&Table, &Reading) -> Followed) -> bool {
         let table = table([3; 3]);
         let mut rng = Rng::new(generator::seed());
-        let choice = Table::choose(&table, &READING).choice();
-        let mut check = || check_other_tallies(&mut rng, &table, &READING, &choice, choose);
+        let choice = Table::choose(&table, &reading(NOW)).choice();
+        let mut check = || check_other_tallies(&mut rng, &table, &reading(NOW), &choice, choose);
         (0..100).any(|_| check().is_err())
     }
 
     /// Follows the source of the greatest by this key.
     fn follow(table: &Table, key: fn(&Member) -> u32) -> Followed {
-        let mut followed = table.choose(&READING);
+        let mut followed = table.choose(&reading(NOW));
         let latest = table.members[..3]
             .iter()
             .rev()

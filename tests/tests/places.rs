@@ -3,16 +3,16 @@
 //! it.
 
 use prunepocket_sys::{Answered, Place, Table};
+use prunepocket_tests::archive;
 use prunepocket_tests::compare::same;
 use prunepocket_tests::generator::{self, Rng};
-use prunepocket_tests::members::{Member, Origin, Reading, Record, ReportFields};
+use prunepocket_tests::members::{Member, Record};
 use prunepocket_tests::places::{count_held_with, lowest_free, lowest_free_with};
 use prunepocket_tests::places::{Fault, Held, PLACES};
+use prunepocket_tests::plain_reports::{self, reading, OPENING};
 use std::array::from_fn;
 
 const SECOND: u64 = 1 << 32;
-
-const RATE: u32 = 90_000;
 
 /// The places behind the lowest free one that are held: none, all, those of even or
 /// of odd number, and the last alone.
@@ -25,37 +25,13 @@ const DRAWN: usize = 3;
 /// alike.
 const NEW: u32 = 1000;
 
-/// The sender's clocks after so many seconds.
-fn reading(seconds: u32) -> Reading {
-    Reading {
-        ntp: u64::from(seconds) * SECOND,
-        rtp: seconds * RATE,
-    }
-}
-
 /// When the tables are filled, and when they are as they are to be.
 const FILLED: u32 = 1000;
 const READY: u32 = 1006;
 
-/// A source's report of what it received then and presented half a second later.
+/// Each source has a port of its own.
 fn record(source: u32, seconds: u32) -> Record {
-    let received = reading(seconds);
-    Record {
-        source,
-        origin: Origin {
-            address: [7; 16],
-            port: source as u16,
-        },
-        report: ReportFields {
-            received: received.ntp,
-            group: 42,
-            media: 7,
-            rtp: received.rtp,
-            presented: (seconds << 16) + (1 << 15),
-            payload_type: 33,
-            p: 1,
-        },
-    }
+    plain_reports::record(source, source as u16, seconds)
 }
 
 /// A member that stands on this record, and has had no twin.
@@ -102,7 +78,7 @@ fn accepted(answered: Answered) -> Table {
 
 /// A member at every place, with a report received then.
 fn full_table(received: impl Fn(usize) -> u32) -> Table {
-    let table = Table::open(42, 7, RATE).expect("it opens");
+    let table = archive::open(&OPENING).expect("it opens");
     (0..PLACES).fold(table, |table, place| {
         let told = record(place as u32, received(place));
         accepted(table.report(&told, &reading(FILLED)))
@@ -211,7 +187,7 @@ fn refused_reports(edge: &Edge) -> Vec<(u64, Record)> {
         (13, spoilt(|told| told.report.media += 1)),
         (15, spoilt(|told| told.report.received -= 24 * SECOND + 1)),
         (15, spoilt(|told| told.report.received += 6 * SECOND + 1)),
-        (16, spoilt(|told| told.report.rtp -= 54 * RATE + 1)),
+        (16, spoilt(|told| told.report.rtp -= 54 * OPENING.rate + 1)),
         (17, spoilt(|told| told.report.presented += 30 << 16)),
     ];
     if let Some(place) = edge.held.iter().rposition(|&held| held) {
