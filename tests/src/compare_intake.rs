@@ -189,7 +189,7 @@ impl IntakeComparison {
     }
 
     /// The answer is the independent one, and so is all memory around the list.
-    /// After a refusal the table has all fields as before.
+    /// After a refusal of the datagram the table has all fields as before.
     fn check_take(&mut self, sides: &mut Sides, arrival: &Arrival) -> Result<Answer, String> {
         let lent = Lent::new(&mut self.rng, &arrival.datagram);
         let list = GUARD..GUARD + arrival.length;

@@ -18,11 +18,11 @@ const BEHIND: [&[u8]; 5] = [b"", b"\n", b"\r\n", b"0\r\n", b"42\r\n"];
 
 /// How often each thing was met in reading.
 #[derive(Default)]
-pub struct ReadTally {
+pub struct ReadCounts {
     /// By kind of line, then by number.
     pub answers: [[u64; NUMBERS]; Kind::ALL.len()],
     /// Lines that were read, by their count of digits.
-    pub counts: [u64; MOST_DIGITS + 1],
+    pub digits: [u64; MOST_DIGITS + 1],
     pub leading_zeros: u64,
     pub group_zero: u64,
     pub last_group: u64,
@@ -44,7 +44,7 @@ pub struct ReadTally {
 
 /// How often each thing was met in writing.
 #[derive(Default)]
-pub struct WriteTally {
+pub struct WriteCounts {
     /// By count of digits less one, then by number.
     pub answers: [[u64; NUMBERS]; MOST_DIGITS],
     /// Buffers exactly as long as the line, and one byte shorter.
@@ -59,8 +59,8 @@ pub struct WriteTally {
 pub struct LineComparison {
     fault: Option<Fault>,
     rng: Rng,
-    pub read: ReadTally,
-    pub written: WriteTally,
+    pub read: ReadCounts,
+    pub written: WriteCounts,
 }
 
 impl LineComparison {
@@ -69,8 +69,8 @@ impl LineComparison {
         LineComparison {
             fault,
             rng: Rng::new(!seed),
-            read: ReadTally::default(),
-            written: WriteTally::default(),
+            read: ReadCounts::default(),
+            written: WriteCounts::default(),
         }
     }
 
@@ -208,9 +208,9 @@ fn is_high(digits: &[u8]) -> bool {
     (digits.len(), digits) > (last.len(), last.as_bytes())
 }
 
-impl ReadTally {
+impl ReadCounts {
     fn add_read(&mut self, digits: &[u8], group: u32) {
-        self.counts[digits.len().min(MOST_DIGITS)] += 1;
+        self.digits[digits.len().min(MOST_DIGITS)] += 1;
         self.leading_zeros += u64::from(digits.len() > 1 && digits[0] == b'0');
         self.group_zero += u64::from(group == 0);
         self.last_group += u64::from(group == LAST_GROUP);
@@ -236,7 +236,7 @@ impl ReadTally {
     }
 }
 
-impl WriteTally {
+impl WriteCounts {
     fn add(&mut self, group: u32, length: usize, number: u64) {
         let count = group.to_string().len();
         let size = ATTRIBUTE.len() + count + LINE_END.len();

@@ -1,4 +1,4 @@
-//! What the long comparisons print of their tallies, and what they ask of them.
+//! What the long comparisons print of what they met, and what they ask of it.
 
 use std::process::exit;
 use std::time::Instant;

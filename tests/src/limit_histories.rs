@@ -38,12 +38,12 @@ const START: u32 = 1000;
 const FIRST_FRESH: u32 = 30;
 const STALE: u32 = 40;
 
-/// How many acts follow on each other.
-const ACTS: u32 = 3;
+/// How many calls follow on each other.
+const CALLS: u32 = 3;
 
-/// What is done with the member in question, or beside it.
+/// The calls under the number in question, and beside it.
 #[derive(Clone, Copy, Debug)]
-enum Act {
+enum CallKind {
     Report(u16),
     Farewell(u16),
     /// Refused with 13, whoever sends it.
@@ -60,21 +60,21 @@ enum Act {
     SweepAllOut,
 }
 
-const ALL: [Act; 14] = [
-    Act::Report(OWN),
-    Act::Report(TWIN),
-    Act::Farewell(OWN),
-    Act::Farewell(TWIN),
-    Act::OtherGroup(OWN),
-    Act::OtherGroup(TWIN),
-    Act::Old,
-    Act::OldMedia,
-    Act::Late,
-    Act::TwinOfAnother,
-    Act::FirstLeaves,
-    Act::Sweep,
-    Act::SweepAllButFirst,
-    Act::SweepAllOut,
+const ALL: [CallKind; 14] = [
+    CallKind::Report(OWN),
+    CallKind::Report(TWIN),
+    CallKind::Farewell(OWN),
+    CallKind::Farewell(TWIN),
+    CallKind::OtherGroup(OWN),
+    CallKind::OtherGroup(TWIN),
+    CallKind::Old,
+    CallKind::OldMedia,
+    CallKind::Late,
+    CallKind::TwinOfAnother,
+    CallKind::FirstLeaves,
+    CallKind::Sweep,
+    CallKind::SweepAllButFirst,
+    CallKind::SweepAllOut,
 ];
 
 /// The calls that lead to the table: the member in question is in the middle.
@@ -90,48 +90,50 @@ fn written(tally: u32) -> [(u32, u32); 3] {
     [first, (NUMBER, tally), last]
 }
 
-impl Act {
+impl CallKind {
     /// The call at the clock, which two of the sweeps move.
     fn call(self, clock: &mut u32) -> Call {
         *clock += match self {
-            Act::SweepAllButFirst => FIRST_FRESH,
-            Act::SweepAllOut => STALE,
+            CallKind::SweepAllButFirst => FIRST_FRESH,
+            CallKind::SweepAllOut => STALE,
             _ => 0,
         };
         let now = reading(*clock);
         let mut told = record(NUMBER, OWN, *clock - 1);
         match self {
-            Act::Report(port) => told.origin.port = port,
-            Act::OtherGroup(port) => {
+            CallKind::Report(port) => told.origin.port = port,
+            CallKind::OtherGroup(port) => {
                 told.origin.port = port;
                 told.report.group += 1;
             }
-            Act::Old => told.report.received = reading(*clock - STALE).ntp,
-            Act::OldMedia => told.report.rtp = now.rtp + 1,
-            Act::Late => told.report.presented += STALE << 16,
-            Act::Farewell(port) => return Call::Farewell(NUMBER, origin(port)),
-            Act::TwinOfAnother => return Call::Farewell(OTHERS[1].0, origin(TWIN)),
-            Act::FirstLeaves => return Call::Farewell(OTHERS[0].0, origin(OWN)),
-            Act::Sweep | Act::SweepAllButFirst | Act::SweepAllOut => return Call::Sweep(now),
+            CallKind::Old => told.report.received = reading(*clock - STALE).ntp,
+            CallKind::OldMedia => told.report.rtp = now.rtp + 1,
+            CallKind::Late => told.report.presented += STALE << 16,
+            CallKind::Farewell(port) => return Call::Farewell(NUMBER, origin(port)),
+            CallKind::TwinOfAnother => return Call::Farewell(OTHERS[1].0, origin(TWIN)),
+            CallKind::FirstLeaves => return Call::Farewell(OTHERS[0].0, origin(OWN)),
+            CallKind::Sweep | CallKind::SweepAllButFirst | CallKind::SweepAllOut => {
+                return Call::Sweep(now)
+            }
         }
         Call::Report(told, now)
     }
 }
 
-/// Every three acts in turn, from a tally on. All members are compared after each
-/// of them, so fewer acts are not histories of their own.
+/// Every three calls in turn, from a tally on. All members are compared after each
+/// of them, so fewer calls are not histories of their own.
 pub fn histories(tally: u32) -> impl Iterator<Item = History> {
-    let orders = 0..ALL.len().pow(ACTS);
-    let act = |order: usize, place: u32| ALL[order / ALL.len().pow(place) % ALL.len()];
-    let acts = move |order: usize| (0..ACTS).map(move |place| act(order, place));
-    orders.map(move |order| history(tally, acts(order)))
+    let orders = 0..ALL.len().pow(CALLS);
+    let kind = |order: usize, place: u32| ALL[order / ALL.len().pow(place) % ALL.len()];
+    let kinds = move |order: usize| (0..CALLS).map(move |place| kind(order, place));
+    orders.map(move |order| history(tally, kinds(order)))
 }
 
-fn history(tally: u32, acts: impl Iterator<Item = Act>) -> History {
+fn history(tally: u32, kinds: impl Iterator<Item = CallKind>) -> History {
     let mut clock = START;
     let mut steps: Vec<Step> = joinings().map(Step::Call).into();
     steps.extend(written(tally).map(|(source, tally)| Step::SetTally(source, tally)));
-    steps.extend(acts.flat_map(|act| [Step::Call(act.call(&mut clock)), Step::Members]));
+    steps.extend(kinds.flat_map(|kind| [Step::Call(kind.call(&mut clock)), Step::Members]));
     steps.push(Step::Choose(reading(clock)));
     History {
         opening: OPENING,
@@ -140,14 +142,14 @@ fn history(tally: u32, acts: impl Iterator<Item = Act>) -> History {
 }
 
 /// Part of a course: a call, then datagrams, with number, port and items of each.
-type Part = (Act, &'static [(u32, u16, &'static str)]);
+type Part = (CallKind, &'static [(u32, u16, &'static str)]);
 
 /// The member in question leaves and comes back: by farewell to the same place, by
 /// sweep to the same and to another, and by farewell to another, since the first
 /// member has come back before it.
 const PARTS: [Part; 4] = [
     (
-        Act::Sweep,
+        CallKind::Sweep,
         &[
             (NUMBER, TWIN, "RF"),
             (NUMBER, OWN, "R"),
@@ -160,14 +162,17 @@ const PARTS: [Part; 4] = [
         ],
     ),
     (
-        Act::SweepAllButFirst,
+        CallKind::SweepAllButFirst,
         &[(NUMBER, OWN, "R"), (NUMBER, TWIN, "FR")],
     ),
     (
-        Act::SweepAllOut,
+        CallKind::SweepAllOut,
         &[(NUMBER, OWN, "R"), (NUMBER, TWIN, "RF"), (NUMBER, OWN, "F")],
     ),
-    (Act::Sweep, &[(OTHERS[0].0, OWN, "R"), (NUMBER, OWN, "R")]),
+    (
+        CallKind::Sweep,
+        &[(OTHERS[0].0, OWN, "R"), (NUMBER, OWN, "R")],
+    ),
 ];
 
 /// Datagrams from the twin and from the holder, with sweeps between them, from a
@@ -176,8 +181,8 @@ pub fn course(tally: u32) -> Course {
     let mut clock = START;
     let mut events: Vec<Event> = joinings().map(Event::Call).into();
     events.extend(written(tally).map(|(source, tally)| Event::SetTally(source, tally)));
-    for (act, datagrams) in PARTS {
-        events.push(Event::Call(act.call(&mut clock)));
+    for (kind, datagrams) in PARTS {
+        events.push(Event::Call(kind.call(&mut clock)));
         let arrivals = datagrams.iter().map(|(source, port, items)| {
             Event::Arrival(arrival(&record(*source, *port, clock - 1), items, clock))
         });

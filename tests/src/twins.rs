@@ -14,7 +14,7 @@ pub struct Twins {
     pub reports: u64,
     pub farewells: u64,
     /// Reports from elsewhere under a number that is held, refused with 13.
-    pub foreign: u64,
+    pub other_stream: u64,
     /// Reports of a member with a tally: accepted, and refused with 13 or 15 to 17.
     pub own_accepted: u64,
     pub own_refused: u64,
@@ -49,7 +49,7 @@ impl Twins {
             (_, 14) => self.around_limit.count(call, member.tally),
             (Call::Farewell(..), 0) => self.left += tallied,
             (Call::Report(told, _), 13) if told.origin != member.record.origin => {
-                self.foreign += 1;
+                self.other_stream += 1;
             }
             (Call::Report(..), 0) => self.own_accepted += tallied,
             (Call::Report(..), 13 | 15..=17) => self.own_refused += tallied,
@@ -78,7 +78,7 @@ impl Twins {
         let mut met = lines([
             ("reports refused 14", self.reports),
             ("farewells refused 14", self.farewells),
-            ("twins' reports refused 13", self.foreign),
+            ("twins' reports refused 13", self.other_stream),
             ("tally, own report accepted", self.own_accepted),
             ("tally, own report refused", self.own_refused),
             ("tally, outlasts a sweep", self.outlasted),

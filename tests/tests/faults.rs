@@ -95,12 +95,9 @@ fn tallies_find_all(seed: u64) -> bool {
     }
     for fault in call_history::Fault::AT_LIMIT {
         for tally in BELOW_LIMIT {
-            let acts = limit_histories::histories(tally);
-            let in_acts = in_these_histories(seed, of_table(fault), acts);
-            found &= print_found(fault, "limit", in_acts);
-            let course = once(limit_histories::course(tally));
-            let in_course = in_these_courses(seed, of_intake(fault), course);
-            found &= print_found(fault, "limit", in_course);
+            let (of_table, of_intake) = (of_table(fault), of_intake(fault));
+            found &= print_found(fault, "limit", in_limit_histories(seed, of_table, tally));
+            found &= print_found(fault, "limit", in_limit_course(seed, of_intake, tally));
         }
     }
     found
@@ -115,10 +112,10 @@ fn rejoins_find_all(seed: u64) -> bool {
         let of_intake = intake::Fault::Rejoins(fault);
         found &= print_found(fault, "history", in_histories(seed, of_table));
         found &= print_found(fault, "course", in_courses(seed, of_intake));
-        let acts = limit_histories::histories(TALLY_LIMIT);
-        found &= print_found(fault, "limit", in_these_histories(seed, of_table, acts));
-        let course = once(limit_histories::course(TALLY_LIMIT));
-        found &= print_found(fault, "limit", in_these_courses(seed, of_intake, course));
+        let in_histories = in_limit_histories(seed, of_table, TALLY_LIMIT);
+        found &= print_found(fault, "limit", in_histories);
+        let in_course = in_limit_course(seed, of_intake, TALLY_LIMIT);
+        found &= print_found(fault, "limit", in_course);
     }
     found
 }
@@ -212,6 +209,10 @@ fn in_histories(seed: u64, fault: compare_table::Fault) -> Found {
     in_these_histories(seed, fault, generated(seed, histories::history))
 }
 
+fn in_limit_histories(seed: u64, fault: compare_table::Fault, tally: u32) -> Found {
+    in_these_histories(seed, fault, limit_histories::histories(tally))
+}
+
 /// The difference is that of the smallest history with the fault in it.
 fn in_these_histories(
     seed: u64,
@@ -231,6 +232,10 @@ fn in_these_histories(
 
 fn in_courses(seed: u64, fault: intake::Fault) -> Found {
     in_these_courses(seed, fault, generated(seed, arrivals::course))
+}
+
+fn in_limit_course(seed: u64, fault: intake::Fault, tally: u32) -> Found {
+    in_these_courses(seed, fault, once(limit_histories::course(tally)))
 }
 
 /// The difference is that of the smallest course with the fault in it.

@@ -3,7 +3,7 @@
 //! was met.
 
 use prunepocket_tests::compare::Verdict;
-use prunepocket_tests::compare_site_lines::{LineComparison, ReadTally, WriteTally};
+use prunepocket_tests::compare_site_lines::{LineComparison, ReadCounts, WriteCounts};
 use prunepocket_tests::counts::{answer_name, lines, print_answers, print_lines, settle, Line};
 use prunepocket_tests::generator::{self, Rng};
 use prunepocket_tests::site_lines::{self, Kind, SiteLine, Writing};
@@ -76,72 +76,72 @@ fn check_writing(comparison: &mut LineComparison, writing: &Writing) -> Verdict 
         .map_err(|difference| format!("{difference}\ngroup {group}, a buffer of {length} bytes"))
 }
 
-fn print_read(tally: &ReadTally) {
+fn print_read(counts: &ReadCounts) {
     let kinds = Kind::ALL.map(|kind| format!("{kind:?}").to_lowercase());
     let kinds: Vec<&str> = kinds.iter().map(String::as_str).collect();
-    print_answers("lines read", &kinds, &[0, 21, 22], &tally.answers);
-    print_lines(&others_in_reading(tally));
+    print_answers("lines read", &kinds, &[0, 21, 22], &counts.answers);
+    print_lines(&others_in_reading(counts));
 }
 
-fn print_written(tally: &WriteTally) {
-    let counts: Vec<String> = (1..=10).map(|count| count.to_string()).collect();
-    let counts: Vec<&str> = counts.iter().map(String::as_str).collect();
-    print_answers("by digits", &counts, &[0, 10, 22], &tally.answers);
-    print_lines(&others_in_writing(tally));
+fn print_written(counts: &WriteCounts) {
+    let digits: Vec<String> = (1..=10).map(|count| count.to_string()).collect();
+    let digits: Vec<&str> = digits.iter().map(String::as_str).collect();
+    print_answers("by digits", &digits, &[0, 10, 22], &counts.answers);
+    print_lines(&others_in_writing(counts));
 }
 
-fn others_in_reading(tally: &ReadTally) -> Vec<Line> {
-    let counts = tally.counts.iter().enumerate().skip(1);
-    let counts = counts.map(|(count, times)| (format!("read, count of digits {count}"), *times));
+fn others_in_reading(counts: &ReadCounts) -> Vec<Line> {
+    let digits = counts.digits.iter().enumerate().skip(1);
+    let digits = digits.map(|(count, times)| (format!("read, count of digits {count}"), *times));
     let others = lines([
-        ("read, with leading zeros", tally.leading_zeros),
-        ("read, group 0", tally.group_zero),
-        ("read, group 4294967294", tally.last_group),
-        ("written back", tally.written_back),
-        ("written back without zeros", tally.shortened),
-        ("22, up to ten digits", tally.high_values),
-        ("22, more than ten digits", tally.many_digits),
-        ("22, value in range", tally.many_digits_in_range),
-        ("22, 1,000 digits", tally.thousand_digits),
-        ("21, 22 due too", tally.both_refusals),
-        ("21, 1,000 digits but one", tally.thousand_digits_but_one),
-        ("21, no digit", tally.no_digit),
+        ("read, with leading zeros", counts.leading_zeros),
+        ("read, group 0", counts.group_zero),
+        ("read, group 4294967294", counts.last_group),
+        ("written back", counts.written_back),
+        ("written back without zeros", counts.shortened),
+        ("22, up to ten digits", counts.high_values),
+        ("22, more than ten digits", counts.many_digits),
+        ("22, value in range", counts.many_digits_in_range),
+        ("22, 1,000 digits", counts.thousand_digits),
+        ("21, 22 due too", counts.both_refusals),
+        ("21, 1,000 digits but one", counts.thousand_digits_but_one),
+        ("21, no digit", counts.no_digit),
     ]);
-    counts.chain(others).collect()
+    digits.chain(others).collect()
 }
 
-fn others_in_writing(tally: &WriteTally) -> Vec<Line> {
+fn others_in_writing(counts: &WriteCounts) -> Vec<Line> {
     lines([
-        ("22, 10 due too", tally.both_refusals),
-        ("buffers of the line's length", tally.exact.iter().sum()),
-        ("buffers one byte shorter", tally.one_short.iter().sum()),
-        ("read back", tally.read_back),
+        ("22, 10 due too", counts.both_refusals),
+        ("buffers of the line's length", counts.exact.iter().sum()),
+        ("buffers one byte shorter", counts.one_short.iter().sum()),
+        ("read back", counts.read_back),
     ])
 }
 
-fn met_in_reading(tally: &ReadTally) -> Vec<Line> {
+fn met_in_reading(counts: &ReadCounts) -> Vec<Line> {
     let answers = READ.into_iter().flat_map(|(kind, numbers)| {
-        let times = &tally.answers[kind as usize];
+        let times = &counts.answers[kind as usize];
         let name = move |number| format!("{} ({kind:?})", answer_name(number));
         numbers
             .iter()
             .map(move |&number| (name(number), times[number]))
     });
-    answers.chain(others_in_reading(tally)).collect()
+    answers.chain(others_in_reading(counts)).collect()
 }
 
 /// Lines of every length, in buffers that are as long and one byte shorter.
-fn met_in_writing(tally: &WriteTally) -> Vec<Line> {
-    let mut met = others_in_writing(tally);
-    for (index, answers) in tally.answers.iter().enumerate() {
+fn met_in_writing(counts: &WriteCounts) -> Vec<Line> {
+    let mut met = others_in_writing(counts);
+    for (index, answers) in counts.answers.iter().enumerate() {
         let name = |what: &str| format!("{what} ({} digits)", index + 1);
         met.extend([
             (name("accepted"), answers[0]),
             (name("refused 10"), answers[10]),
-            (name("exactly as long"), tally.exact[index]),
-            (name("one byte shorter"), tally.one_short[index]),
+            (name("exactly as long"), counts.exact[index]),
+            (name("one byte shorter"), counts.one_short[index]),
         ]);
     }
-    met.push((answer_name(22), tally.answers[9][22]));
+    met.push((answer_name(22), counts.answers[9][22]));
     met
 }
