@@ -184,7 +184,8 @@ impl Table {
     pub fn report(&mut self, record: &Record, reading: &Reading) -> Result<(), u64> {
         let report = &record.report;
         self.check_subject(report)?;
-        let own = self.held_by(record.source, &record.origin)?;
+        let own = self.held_by(record.source, &record.origin);
+        let own = own.map_err(|place| self.refuse_twin(place))?;
         report.check_received(reading)?;
         report.check_rtp(reading, self.rate)?;
         report.check_presentation()?;
@@ -202,7 +203,9 @@ impl Table {
 
     /// Removes the member if its origin holds the number; otherwise 19 or 14.
     pub fn farewell(&mut self, source: u32, origin: &Origin) -> Result<(), u64> {
-        let place = self.held_by(source, origin)?.ok_or(19u64)?;
+        let own = self.held_by(source, origin);
+        let own = own.map_err(|place| self.refuse_twin(place))?;
+        let place = own.ok_or(19u64)?;
         self.held &= !(1 << place);
         Ok(())
     }
@@ -254,17 +257,19 @@ impl Table {
         }
     }
 
-    /// The place that holds the number, if any; 14 where another origin holds it, whose
-    /// tally is then one more, up to the greatest.
-    fn held_by(&mut self, source: u32, origin: &Origin) -> Result<Option<usize>, u64> {
+    /// The place that holds the number, if any; as an error where another origin holds it.
+    fn held_by(&self, source: u32, origin: &Origin) -> Result<Option<usize>, usize> {
         match Ones(self.held).find(|&place| self.places[place].record.source == source) {
-            Some(place) if self.places[place].record.origin != *origin => {
-                let tally = &mut self.places[place].tally;
-                *tally = tally.saturating_add(1);
-                Err(14)
-            }
+            Some(place) if self.places[place].record.origin != *origin => Err(place),
             own => Ok(own),
         }
+    }
+
+    /// Refusal 14: the tally of the member at this place is one more, up to 4294967295.
+    fn refuse_twin(&mut self, place: usize) -> u64 {
+        let tally = &mut self.places[place].tally;
+        *tally = tally.saturating_add(1);
+        14
     }
 
     /// The lowest free place; 18 where all are held.

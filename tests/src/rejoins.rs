@@ -1,5 +1,5 @@
-//! New members behind such as left with a tally, under the same number, at the
-//! same place, or both: each starts with a tally of 0.
+//! New members that have the number or the place, or both, of one that left with a
+//! tally: each starts with a tally of 0.
 //!
 //! As in the decoder, a `Fault` plants one error that the comparisons have to
 //! find.
@@ -30,8 +30,7 @@ pub enum Shared {
 
 #[derive(Clone, Copy, Debug, PartialEq, Eq)]
 pub enum Fault {
-    /// A new member starts with the tally of one that left so, with which it shares
-    /// this.
+    /// A new member that shares this with one that left so starts with its tally.
     Kept(LeftBy, Shared),
 }
 
