@@ -179,12 +179,12 @@ impl<S: Side> Bench<S> {
                 let held = member.map(|member| (member.record.source, member.record.origin));
                 is(held, holder(due)?)
             }
-            (["tally", index], [due]) => is(tally_at(&self.side, number(index)?), number(due)?),
+            (["tally", index], [due]) => is(tally_at(&self.side, number(index)?), tally(due)?),
             (["unchanged"], []) => self.unchanged(None),
             (["unchanged", "but", "tally", index], [due]) => {
                 let index = place(index)?;
                 self.unchanged(Some(index))?;
-                is(tally_at(&self.side, index), number(due)?)
+                is(tally_at(&self.side, index).unwrap_or(0), number(due)?)
             }
             _ => Err(String::from("not a step")),
         }
@@ -297,7 +297,7 @@ impl<S: Side> Bench<S> {
         for place in 0..PLACES {
             let [now, mut then] = [&self.side, &self.before].map(|side| side.member_at(place));
             if let (Some(then), true) = (&mut then, but == Some(place)) {
-                then.tally = tally_at(&self.side, place);
+                then.tally = tally_at(&self.side, place).unwrap_or(0);
             }
             same(format_args!("place {place}"), &now, &then)?;
         }
@@ -383,8 +383,9 @@ fn records(side: &impl Side) -> Vec<Record> {
 }
 
 /// 0 where there is no member.
-fn tally_at(side: &impl Side, place: usize) -> u32 {
-    side.member_at(place).map_or(0, |member| member.tally)
+/// The tally of the member at a place, if there is one.
+fn tally_at(side: &impl Side, place: usize) -> Option<u32> {
+    side.member_at(place).map(|member| member.tally)
 }
 
 fn settings_message(sender: u32, target: &Target) -> Message {
@@ -524,6 +525,14 @@ fn item(words: &[&str]) -> Result<Result<(u64, u64), Refusal>, String> {
     }
 }
 
+/// The tally of a member, or that there is no member.
+fn tally(word: &str) -> Result<Option<u32>, String> {
+    match word {
+        "none" => Ok(None),
+        word => Ok(Some(number(word)?)),
+    }
+}
+
 /// Who holds a place, if anybody does.
 fn holder(words: &[&str]) -> Result<Option<(u32, Origin)>, String> {
     match words {
@@ -576,8 +585,8 @@ mod tests {
         let start = format!("{REPORT} = 0\n{TWIN} = 14\n{farewell} = 14\n");
         for step in [
             "tally 0 = 2",
-            "tally 1 = 0",
-            "tally 64 = 0",
+            "tally 1 = none",
+            "tally 64 = none",
             "unchanged but tally 0 = 2",
         ] {
             assert_eq!(
@@ -592,7 +601,10 @@ mod tests {
             "unchanged but tally 1 = 0",
             "unchanged but tally 1 = 2",
             "tally 0 = 1",
+            "tally 0 = none",
+            "tally 1 = 0",
             "tally 1 = 2",
+            "tally 64 = 0",
         ] {
             assert!(fails(&format!("{start}  {step}\n")), "{step}");
         }
@@ -601,8 +613,12 @@ mod tests {
             assert_eq!(run::<Intake>(&format!("{own}  {step}\n")), Ok(5), "{step}");
         }
         let left = format!("{start}  farewell 10 192.0.2.1:5010 = 0\n");
-        assert_eq!(run::<Intake>(&format!("{left}  tally 0 = 0\n")), Ok(5));
-        for step in ["unchanged but tally 0 = 0", "unchanged but tally 0 = 2"] {
+        assert_eq!(run::<Intake>(&format!("{left}  tally 0 = none\n")), Ok(5));
+        for step in [
+            "tally 0 = 0",
+            "unchanged but tally 0 = 0",
+            "unchanged but tally 0 = 2",
+        ] {
             assert!(fails(&format!("{left}  {step}\n")), "{step}");
         }
     }
