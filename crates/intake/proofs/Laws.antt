@@ -31,7 +31,8 @@ use Rattle.table.specs.Calls.{answered}
 use Rattle.table.specs.Intake.{taken}
 use Rattle.table.specs.History.{answersFrom, tableFrom}
 use Rattle.intake.specs.declared.DatagramAnswered.{DatagramAnswered}
-use Rattle.intake.specs.Datagrams.{callsOf, callsIn, numbersInto, datagramAnswered, answersAfter}
+use Rattle.table.specs.Numbers.{numbersInto}
+use Rattle.intake.specs.Datagrams.{callsOf, callsIn, datagramAnswered, answersAfter}
 use Rattle.intake.specs.Steps.{callsOfItem, callCount, numbersOf}
 
 -- ---- given: what a cursor gives, by what it gives next

@@ -1,12 +1,11 @@
 -- What a caller may rely on, beyond the call's own contract: how long a list is long enough, that demand 3 reaches the
 -- table that a datagram or an item of it leaves, and what reduced size changes (E2).
 use Prim.Native.Nat.{ℕ, _+_, _≤_}
-use mathlib.Core.Path.{_≡_, refl, ap, _∙_}
+use mathlib.Core.Path.{_≡_, refl, ap}
 use mathlib.Core.Bool.{Bool, true, false}
 use mathlib.Core.List.{List, [], _∷_, _++_}
 use lib.Dec.{ltb}
 use lib.ListN.{length, drop}
-use lib.Seq.{drop-at}
 use native.Mathlib.Omega.{arith}
 use borrow.Author.Tests.{lt-ltb, le-ltb}
 use Rattle.idms.specs.declared.Item.{Item}
@@ -14,11 +13,11 @@ use Rattle.idms.specs.declared.Placed.{Placed}
 use Rattle.origin.specs.declared.Origin.{Origin}
 use Rattle.register.specs.declared.Reading.{Reading}
 use Rattle.datagram.specs.declared.Count.{Count}
-use Rattle.register.specs.Register.{Opening, Call, answer, answers, afterAll}
+use Rattle.register.specs.Register.{Opening, Call, answer, answers}
 use Rattle.register.specs.Tallies.{Members, recordsOf, membersAfterAll}
 use Rattle.register.specs.Promise.{AllInRange}
 use Rattle.register.proofs.Tallies.{rows-after-all}
-use Rattle.register.proofs.History.{length-answers, answers-append, ranges-append}
+use Rattle.register.proofs.History.{answers-behind, ranges-append}
 use Rattle.table.specs.declared.Table.{Table}
 use Rattle.table.specs.Calls.{answered}
 use Rattle.table.specs.Intake.{callTaken, taken}
@@ -90,14 +89,6 @@ pub datagram-in-range :
     → AllInRange (datagramCalls d origin at)
 datagram-in-range reduced d origin at h check =
     calls-in-range d origin at h (items-read d (passes-agreed reduced d check))
-
--- the register's answers behind those to the calls before
-answers-behind :
-    (o : Opening) (calls more : List Call) →
-    drop (length calls) (answers o [] (calls ++ more)) ≡ answers o (afterAll o [] calls) more
-answers-behind o calls more =
-    ap (drop (length calls)) (answers-append o [] calls more)
-    ∙ drop-at (answers o [] calls) _ (length calls) (length-answers o [] calls)
 
 -- Of every datagram of bytes all calls are made, and answered as the register answers them, or none is.
 pub datagram-reached : EveryDatagram

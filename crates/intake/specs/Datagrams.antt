@@ -4,7 +4,7 @@ use Prim.Native.Nat.{ℕ}
 use mathlib.Core.Bool.{Bool, cond}
 use mathlib.Core.List.{List, [], _∷_, _++_}
 use lib.Dec.{ltb}
-use lib.ListN.{length, drop}
+use lib.ListN.{length}
 use Rattle.idms.specs.declared.Item.{Item}
 use Rattle.idms.specs.declared.Placed.{Placed}
 use Rattle.refusals.specs.Refusals.{shortBuffer}
@@ -15,7 +15,8 @@ use Rattle.register.specs.declared.Reading.{Reading}
 use Rattle.register.specs.Register.{Call}
 use Rattle.table.specs.declared.Table.{Table}
 use Rattle.table.specs.Intake.{recordOf}
-use Rattle.table.specs.History.{answersFrom, tableFrom}
+use Rattle.table.specs.History.{tableFrom}
+use Rattle.table.specs.Numbers.{numbersInto}
 use Rattle.intake.specs.declared.DatagramAnswered.{DatagramAnswered}
 
 -- the call that an item is, under its datagram's origin and reading; settings are none
@@ -34,10 +35,6 @@ abbrev pub callsAnswered : Table → List Call → List ℕ → DatagramAnswered
 callsAnswered t calls answers =
     cond (ltb (length answers) (length calls)) (record { number = shortBuffer; place = 0; count = 0; table = t })
     (record { number = 0; place = 0; count = length calls; table = tableFrom t calls })
-
--- the numbers at the front, and behind them what was there
-abbrev pub numbersInto : Table → List Call → List ℕ → List ℕ
-numbersInto t calls answers = answersFrom t calls ++ drop (length calls) answers
 
 abbrev pub numbersAfter : Table → List Call → List ℕ → List ℕ
 numbersAfter t calls answers = cond (ltb (length answers) (length calls)) answers (numbersInto t calls answers)

@@ -16,7 +16,8 @@ ghost use lib.ListN.{length};
 ghost use lib.Seq.{sets};
 ghost use Rattle.rtcp.specs.Cursor.{given};
 ghost use Rattle.table.specs.History.{tableFrom};
-ghost use Rattle.intake.specs.Datagrams.{numbersInto, datagramAnswered, answersAfter};
+ghost use Rattle.table.specs.Numbers.{numbersInto};
+ghost use Rattle.intake.specs.Datagrams.{datagramAnswered, answersAfter};
 ghost use Rattle.intake.specs.Steps.{callsOfItem, callCount, givenCalls, numbersOf};
 
 // A refusal's number and byte place, or 0 and 0; how many calls there were; and the table afterwards.

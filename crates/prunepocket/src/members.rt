@@ -1,5 +1,6 @@
 // The member table for C, which holds it by value and passes it from call to call.
 use crate::is_agreed;
+use burst::check_burst;
 use intake::DatagramAnswered;
 use intake::take_datagram;
 use origin::Origin;
@@ -15,6 +16,7 @@ ghost use Rattle.register.specs.Register.{Call};
 ghost use Rattle.table.specs.Members.{memberCount, placeAt};
 ghost use Rattle.table.specs.Calls.{opened, answered};
 ghost use Rattle.table.specs.Choose.{choiceOf};
+ghost use Rattle.burst.specs.Burst.{burstAnswered, burstAnswersAfter};
 ghost use Rattle.intake.specs.Datagrams.{datagramAnswered, answersAfter};
 ghost use Rattle.prunepocket.specs.Answers.{agreed};
 ghost use Rattle.prunepocket.specs.Following.{noTarget, followedOf};
@@ -41,6 +43,31 @@ pub extern "C" fn prunepocket_report(t: Table, x: Record, at: Reading) -> Answer
     ensures { λ r. ⌜ r ≡ answered t (Call.report x at) ⌝ }
 {
     t.report(x, at)
+}
+
+// Every report of a burst, in order, at one reading, each with its number in the list; or 23 or 24, and none is tried.
+#[no_mangle]
+pub extern "C" fn prunepocket_report_burst(
+    mut t: Table,
+    reports: &[Record],
+    at: Reading,
+    answers: &mut [u64],
+) -> Answered
+    ensures { λ r. ⌜ (r ≡ burstAnswered t (now (reports .entry)) at (now (answers .entry)))
+        × (now (answers .exit) ≡ burstAnswersAfter t (now (reports .entry)) at (now (answers .entry))) ⌝ }
+{
+    let checked = check_burst(reports.len(), answers.len());
+    let mut i: usize = 0;
+    while i < checked.tried {
+        let a = t.report(reports[i], at);
+        answers[i] = a.number;
+        t = a.table;
+        i += 1;
+    }
+    Answered {
+        number: checked.number,
+        table: t,
+    }
 }
 
 // A farewell, which is a BYE source, under its origin.

@@ -85,3 +85,11 @@ badLine = 21
 -- more than ten digits, or a value above 4,294,967,294, with the grammar otherwise kept; to the writer, 4,294,967,295
 abbrev pub badGroup : ℕ
 badGroup = 22
+
+-- more than 64 reports in a burst
+abbrev pub longBurst : ℕ
+longBurst = 23
+
+-- answer list shorter than the burst's reports
+abbrev pub shortAnswers : ℕ
+shortAnswers = 24

@@ -63,3 +63,9 @@ pub const BAD_LINE: u64 = 21;
 
 // Such a line, but with more than ten digits or a group number above 4,294,967,294; to the writer, 4,294,967,295.
 pub const BAD_GROUP: u64 = 22;
+
+// More than 64 reports in a burst.
+pub const LONG_BURST: u64 = 23;
+
+// Answer list shorter than the burst's reports.
+pub const SHORT_ANSWERS: u64 = 24;

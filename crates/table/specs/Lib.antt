@@ -3,5 +3,6 @@ pub mod Calls
 pub mod Choose
 pub mod Intake
 pub mod History
+pub mod Numbers
 pub mod PlaceTaken
 pub mod Refused
