@@ -28,8 +28,8 @@ extern "C" {
  * datagram at which it was met, which is 0 where there is no datagram. Number 0
  * with place 0 says that the call was not refused. After any other number, the
  * memory that was lent to the call is as before. The calls of the member table
- * answer a number alone, 0 or 12 to 20; that for a whole datagram answers number
- * and place, 0, 1 to 7 or 10.
+ * answer a number alone, 0, 12 to 20, 23 or 24; that for a whole datagram answers
+ * number and place, 0, 1 to 7 or 10.
  */
 struct prunepocket_answer {
     uint64_t number;
@@ -62,6 +62,9 @@ struct prunepocket_answer {
 /* Numbers 21 and 22 are of the SDP line. */
 #define PRUNEPOCKET_BAD_LINE 21  /* not the line a=rtcp-idms:sync-group=DIGITS CR LF; place 0 */
 #define PRUNEPOCKET_BAD_GROUP 22 /* that line with more than ten digits, or a group above 4294967294; place 0 */
+/* Numbers 23 and 24 are of a burst of reports, and have no place. */
+#define PRUNEPOCKET_LONG_BURST 23    /* more than 64 reports */
+#define PRUNEPOCKET_SHORT_ANSWERS 24 /* answer list shorter than the reports */
 
 /* ---- Items --------------------------------------------------------------
  *
@@ -380,6 +383,26 @@ struct prunepocket_answered prunepocket_open(uint32_t group, uint32_t media, uin
 struct prunepocket_answered prunepocket_report(struct prunepocket_table table,
                                                struct prunepocket_record record,
                                                struct prunepocket_reading reading);
+
+/*
+ * Takes a burst of reports that all arrived at the sender's reading: each report,
+ * in list order, as prunepocket_report does. The table handed back is the one
+ * that these single calls leave, and a refused report does not stop the rest: so
+ * of two twins in one burst the first takes the number, and the second gets 14.
+ * The number that each report gets, 0 or 13 to 18, goes to its place in answers;
+ * numbers of the list behind the reports are as before. Each 14 among them has
+ * raised the holder's tally. The burst's own number is 0 whatever its reports got.
+ * 64 numbers are always enough. A burst without reports is taken, whatever the
+ * list.
+ * Refusals, in this order, before any report is tried: 23 where reports_length is
+ * above 64; 24 where answers_length is below reports_length. Table, tallies
+ * included, and list are then as before.
+ */
+struct prunepocket_answered prunepocket_report_burst(struct prunepocket_table table,
+                                                     const struct prunepocket_record *reports,
+                                                     size_t reports_length,
+                                                     struct prunepocket_reading reading,
+                                                     uint64_t *answers, size_t answers_length);
 
 /*
  * Takes a farewell of a source number: the member is removed if this origin

@@ -2,6 +2,7 @@
 use crate::datagrams::put_bytes;
 use crate::datagrams::read_farewell;
 use crate::datagrams::read_report;
+use crate::forms::BURST;
 use crate::forms::FAREWELL;
 use crate::forms::FILL;
 use crate::forms::ITEMS;
@@ -24,6 +25,7 @@ use crate::lines::value32;
 use crate::scene::Scene;
 use crate::scene::first_record;
 use crate::scene::record_of;
+use burst::check_burst;
 use idms::Found;
 use origin::Origin;
 use register::Reading;
@@ -98,6 +100,15 @@ fn filled(table: Table, first: u32, last: u32, reading: Reading, reduced: bool) 
     filled_one(a, last, reading, reduced)
 }
 
+// A burst before any report is tried, and the table as it was.
+fn checked(table: Table, reports: u32, length: u32) -> Answered {
+    let c = check_burst(reports as usize, length as usize);
+    Answered {
+        number: c.number,
+        table,
+    }
+}
+
 // The call of a step, with the report that the step tells, if it tells one.
 fn called(table: Table, line: Line, x: Record, reading: Reading, reduced: bool) -> Answered {
     let form = line.form;
@@ -106,6 +117,7 @@ fn called(table: Table, line: Line, x: Record, reading: Reading, reduced: bool) 
         SEND_REPORT => taken(table, read_report(x, reduced), x.origin, reading),
         FAREWELL => table.farewell(x.source, x.origin),
         SWEEP => table.sweep(reading),
+        BURST => checked(table, x.source, value32(line, 1)),
         FILL => filled(table, x.source, value32(line, 1), reading, reduced),
         OPEN => opened(table, x.source, value32(line, 1), value32(line, 2)),
         _ => taken(table, read_farewell(x.source, reduced), x.origin, reading),

@@ -29,62 +29,64 @@ pub(crate) const FILL: usize = 11;
 
 pub(crate) const SWEEP: usize = 12;
 
-pub(crate) const TAKE: usize = 13;
+pub(crate) const BURST: usize = 13;
 
-pub(crate) const TAKE_NONE: usize = 14;
+pub(crate) const TAKE: usize = 14;
 
-pub(crate) const TAKE_REFUSED: usize = 15;
+pub(crate) const TAKE_NONE: usize = 15;
 
-pub(crate) const ITEMS: usize = 16;
+pub(crate) const TAKE_REFUSED: usize = 16;
 
-pub(crate) const ITEMS_REFUSED: usize = 17;
+pub(crate) const ITEMS: usize = 17;
 
-pub(crate) const ITEM_REPORT: usize = 18;
+pub(crate) const ITEMS_REFUSED: usize = 18;
 
-pub(crate) const ITEM_SETTINGS: usize = 19;
+pub(crate) const ITEM_REPORT: usize = 19;
 
-pub(crate) const ITEM_FAREWELL: usize = 20;
+pub(crate) const ITEM_SETTINGS: usize = 20;
 
-pub(crate) const ITEM_REFUSED: usize = 21;
+pub(crate) const ITEM_FAREWELL: usize = 21;
 
-pub(crate) const CHOOSE: usize = 22;
+pub(crate) const ITEM_REFUSED: usize = 22;
 
-pub(crate) const CHOOSE_REFUSED: usize = 23;
+pub(crate) const CHOOSE: usize = 23;
 
-pub(crate) const LATENESS: usize = 24;
+pub(crate) const CHOOSE_REFUSED: usize = 24;
 
-pub(crate) const AGE: usize = 25;
+pub(crate) const LATENESS: usize = 25;
 
-pub(crate) const DELAY: usize = 26;
+pub(crate) const AGE: usize = 26;
 
-pub(crate) const MEMBERS: usize = 27;
+pub(crate) const DELAY: usize = 27;
 
-pub(crate) const PLACE: usize = 28;
+pub(crate) const MEMBERS: usize = 28;
 
-pub(crate) const PLACE_FREE: usize = 29;
+pub(crate) const PLACE: usize = 29;
 
-pub(crate) const TALLY: usize = 30;
+pub(crate) const PLACE_FREE: usize = 30;
 
-pub(crate) const TALLY_NONE: usize = 31;
+pub(crate) const TALLY: usize = 31;
 
-pub(crate) const UNCHANGED: usize = 32;
+pub(crate) const TALLY_NONE: usize = 32;
 
-pub(crate) const UNCHANGED_BUT: usize = 33;
+pub(crate) const UNCHANGED: usize = 33;
 
-pub(crate) const WRITE_REPORT: usize = 34;
+pub(crate) const UNCHANGED_BUT: usize = 34;
 
-pub(crate) const WRITE_SETTINGS: usize = 35;
+pub(crate) const WRITE_REPORT: usize = 35;
 
-pub(crate) const READ_LINE: usize = 36;
+pub(crate) const WRITE_SETTINGS: usize = 36;
 
-pub(crate) const READ_LINE_REFUSED: usize = 37;
+pub(crate) const READ_LINE: usize = 37;
 
-pub(crate) const WRITE_LINE: usize = 38;
+pub(crate) const READ_LINE_REFUSED: usize = 38;
 
-pub(crate) const WRITE_LINE_REFUSED: usize = 39;
+pub(crate) const WRITE_LINE: usize = 39;
+
+pub(crate) const WRITE_LINE_REFUSED: usize = 40;
 
 // The form of a line that is no step, and of a step that has none of the forms.
-pub(crate) const PROSE: usize = 40;
+pub(crate) const PROSE: usize = 41;
 
 // The step at a place, with the answer that it expects. In a form # is a number, @ a time, % an origin, ? a report's
 // presented field, ! a target's presented time, & answers of calls, * words of hex, " a text; all else stands for
@@ -104,6 +106,7 @@ pub(crate) fn matched(s: &[u8], at: usize) -> Line {
           send farewell # % = #\n\
           fill # # = #\n\
           sweep = #\n\
+          burst # # = #\n\
           take % =&\n\
           take % = none\n\
           take % = refused # #\n\
@@ -152,6 +155,7 @@ pub(crate) fn print_came(line: Line, s: &[u8]) {
           \x20 farewell of source $n0 from $o0: $a1\n\
           \x20 reports of sources $n0 to $n1: $a2\n\
           \x20 sweep: $a0\n\
+          \x20 burst of $n0 reports, a list of $n1 numbers: $a2\n\
           \x20 datagram from $o0: $l0\n\
           \x20 datagram from $o0: no report and no farewell\n\
           \x20 datagram from $o0: $a0, at byte $n1\n\

@@ -16,6 +16,9 @@
 //   fill FIRST LAST = NUMBER                     each of these sources sends P1's report from 192.0.2.1, port 5000 more
 //                                                than its number; the last number that is not 0, or 0
 //   sweep = NUMBER
+//   burst REPORTS LENGTH = NUMBER                checks a burst of so many reports with an answer list of that length:
+//                                                where it is taken, its reports are those of the report and fill steps
+//                                                behind it, one by one
 //   datagram HEX..                               the datagram of the steps behind it
 //   reduced size agreed                          what the steps behind it that read a datagram are told
 //   reduced size not agreed
@@ -58,6 +61,7 @@ mod text;
 use crate::calls::Told;
 use crate::calls::call;
 use crate::calls::read_datagram;
+use crate::forms::BURST;
 use crate::forms::ITEM_REFUSED;
 use crate::forms::ITEMS;
 use crate::forms::NO_REDUCED_SIZE;
@@ -66,7 +70,6 @@ use crate::forms::PROSE;
 use crate::forms::READ_LINE;
 use crate::forms::READING;
 use crate::forms::REPORT;
-use crate::forms::SWEEP;
 use crate::forms::TABLE;
 use crate::forms::TAKE;
 use crate::forms::UNCHANGED;
@@ -150,7 +153,7 @@ fn told(table: Table, earlier: Table, line: Line, scene: Scene, record: Record, 
             table,
             line: unchanged(table, earlier, line, scene),
         },
-        OPEN..=SWEEP => call(table, line, scene),
+        OPEN..=BURST => call(table, line, scene),
         TAKE..=ITEM_REFUSED => read_datagram(table, line, scene, s),
         READ_LINE..=WRITE_LINE_REFUSED => Told {
             table,

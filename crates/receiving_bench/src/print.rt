@@ -52,7 +52,7 @@ const UNKNOWN: usize = 19;
 // The phrase of the answer 0, which those of the other answers follow.
 const ANSWERS: usize = 20;
 
-const LAST_ANSWER: u64 = 22;
+const LAST_ANSWER: u64 = 24;
 
 // A phrase by its number. What the answers stand for comes last, so that one more answer is
 // one more line and a higher LAST_ANSWER.
@@ -100,7 +100,9 @@ pub(crate) fn say(phrase: usize) {
           the number is not held\n\
           no member is fresh\n\
           not the line of a group number\n\
-          more than ten digits or a group above 4294967294\n",
+          more than ten digits or a group above 4294967294\n\
+          more than 64 reports\n\
+          an answer list shorter than the reports\n",
         phrase,
     );
 }
