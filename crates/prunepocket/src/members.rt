@@ -59,9 +59,11 @@ pub extern "C" fn prunepocket_report_burst(
     let checked = check_burst(reports.len(), answers.len());
     let mut i: usize = 0;
     while i < checked.tried {
-        let a = t.report(reports[i], at);
-        answers[i] = a.number;
-        t = a.table;
+        let f = t.filing(reports[i], at);
+        let place = f.place;
+        t.members[place] = f.member;
+        t.held = f.held;
+        answers[i] = f.number;
         i += 1;
     }
     Answered {

@@ -1,3 +1,4 @@
 pub mod Members
 pub mod Search
 pub mod Cases
+pub mod Filing

@@ -2,3 +2,4 @@ pub mod Agreement
 pub mod PlaceTaken
 pub mod Refused
 pub mod Laws
+pub mod InMemory

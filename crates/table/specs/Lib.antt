@@ -1,5 +1,6 @@
 pub mod Members
 pub mod Calls
+pub mod Filing
 pub mod Choose
 pub mod Intake
 pub mod History

@@ -1,21 +1,22 @@
 // The member table of one synchronization group: 64 places, and one word that marks those held.
 mod empty;
+mod filing;
 mod search;
 mod tally;
 
 use checks::is_refused_opening;
-use checks::report_number;
 use choosing::choice_at;
 use choosing::marks_at;
 use empty::empty_table;
 use empty::free_place;
+use filing::Filing;
+use filing::known_filing;
+use filing::new_filing;
 use idms::Item;
 use idms::Report;
 use origin::Origin;
 use places::count_held;
 use places::is_held;
-use places::lowest_free;
-use places::with_place;
 use places::without_place;
 use refusals::BAD_OPENING;
 use refusals::NO_MEMBER;
@@ -26,28 +27,28 @@ use register::Reading;
 use register::Record;
 use register::ReportFields;
 use search::is_elsewhere;
-use search::is_without_room;
+use search::is_held_by;
 use search::member_of;
 use search::place_of;
 use tally::raised;
 ghost use Prim.Native.Nat.{_<_};
 ghost use mathlib.Core.Path.{_≡_};
-ghost use mathlib.Core.Bool.{false};
-ghost use Rattle.places.specs.Places.{lowestFree};
 ghost use Rattle.register.specs.Register.{Call};
-ghost use Rattle.table.specs.Members.{placeIn, memberCount, placeAt};
-ghost use Rattle.table.specs.Calls.{opened, isWithoutRoom, filed, withRaised, answered};
+ghost use Rattle.table.specs.Members.{memberCount, placeAt};
+ghost use Rattle.table.specs.Calls.{opened, withRaised, answered};
+ghost use Rattle.table.specs.Filing.{filingOf};
 ghost use Rattle.table.specs.Choose.{chosenOf};
 ghost use Rattle.table.specs.Intake.{recordOf, taken};
 
-// A table for one group, media source and clock rate. The lowest bit of `held` marks the first place.
+// A table for one group, media source and clock rate. The lowest bit of `held` marks the first place. A caller may
+// store what a filing says where it lies, so the fields are public: every call answers every value that they can have.
 #[repr(C)]
 pub struct Table {
-    group: u32,
-    media: u32,
-    rate: u32,
-    held: u64,
-    members: [Member; 64],
+    pub group: u32,
+    pub media: u32,
+    pub rate: u32,
+    pub held: u64,
+    pub members: [Member; 64],
 }
 
 // A refusal's number, or 0 that there is none, and the table afterwards.
@@ -131,30 +132,6 @@ impl Table {
         }
     }
 
-    // An accepted report, filed at its number's place, with the tally there, or at the lowest free one, with 0.
-    fn file(self, place: usize, free: usize, x: Record) -> Table
-        requires { ⌜ (place ≡ placeIn self (x .source)) × (free ≡ lowestFree 64 (self .held))
-            × (isWithoutRoom self (x .source) ≡ false) ⌝ }
-        ensures { λ r. ⌜ r ≡ filed self x ⌝ }
-    {
-        let held = self.held;
-        let mut next = self;
-        if place < 64 {
-            let there = next.members[place];
-            next.members[place] = Member {
-                record: x,
-                tally: there.tally,
-            };
-            return next;
-        }
-        next.held = with_place(held, free);
-        next.members[free] = Member {
-            record: x,
-            tally: 0,
-        };
-        next
-    }
-
     // A refusal with 14, tallied at the place of the member that holds the number.
     fn tally_refusal(self, place: usize) -> Table
         requires { ⌜ place < 64 ⌝ }
@@ -166,33 +143,53 @@ impl Table {
         next
     }
 
+    // What a report does, at the sender's reading. The search is a loop of its own here: handed on by value, the members
+    // would be copied.
+    pub fn filing(self, x: Record, at: Reading) -> Filing
+        ensures { λ r. ⌜ (r ≡ filingOf self x at) × (r .place < 64) ⌝ }
+    {
+        let mut word = self.held;
+        let mut i: usize = 0;
+        while i < 64 {
+            if is_held_by(word, self.members[i].record.source, x.source) {
+                return known_filing(
+                    self.group,
+                    self.media,
+                    self.rate,
+                    self.held,
+                    i,
+                    self.members[i],
+                    x,
+                    at,
+                );
+            }
+            word /= 2;
+            i += 1;
+        }
+        new_filing(
+            self.group,
+            self.media,
+            self.rate,
+            self.held,
+            self.members[0],
+            x,
+            at,
+        )
+    }
+
     // A report under its origin, at the sender's reading.
     pub fn report(self, x: Record, at: Reading) -> Answered
         ensures { λ r. ⌜ r ≡ answered self (Call.report x at) ⌝ }
     {
-        let held = self.held;
-        let members = self.members;
-        let origin = x.origin;
-        let place = place_of(held, members, x.source);
-        let elsewhere = is_elsewhere(members, place, origin);
-        let free = lowest_free(held) as usize;
-        let full = is_without_room(place, free);
-        let number = report_number(self.group, self.media, self.rate, x, at, elsewhere, full);
-        if number == OTHER_ORIGIN {
-            return Answered {
-                number,
-                table: self.tally_refusal(place),
-            };
-        }
-        if number != 0 {
-            return Answered {
-                number,
-                table: self,
-            };
-        }
+        let f = self.filing(x, at);
+        let place = f.place;
+        let member = f.member;
+        let mut next = self;
+        next.members[place] = member;
+        next.held = f.held;
         Answered {
-            number: 0,
-            table: self.file(place, free, x),
+            number: f.number,
+            table: next,
         }
     }
 

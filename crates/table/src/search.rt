@@ -1,11 +1,11 @@
-// Where a number's member stands, what is at a place, and whether there is room.
+// Where a number's member stands, and what is at a place.
 use origin::Origin;
 use origin::same_origin;
 use register::Member;
 ghost use mathlib.Core.Path.{_≡_};
 ghost use mathlib.Core.Bool.{not, _&&_};
 ghost use Prim.Native.Nat.{_<_};
-ghost use lib.Dec.{ltb, eqb};
+ghost use lib.Dec.{eqb};
 ghost use lib.ListN.{getD};
 ghost use Rattle.places.specs.Places.{isFree};
 ghost use Rattle.register.specs.Tallies.{recordsOf};
@@ -14,7 +14,7 @@ ghost use Rattle.table.specs.Members.{placeOf};
 ghost use Rattle.table.specs.Calls.{elsewhereAt};
 
 // Whether the word's first place is held, by a member of this number.
-fn is_held_by(word: u64, number: u32, source: u32) -> bool
+pub(crate) fn is_held_by(word: u64, number: u32, source: u32) -> bool
     ensures { λ r. ⌜ r ≡ (not (isFree word) && eqb number source) ⌝ }
 {
     if word % 2 == 0 {
@@ -56,14 +56,4 @@ pub(crate) fn is_elsewhere(members: [Member; 64], place: usize, origin: Origin) 
     }
     let there = members[place];
     !same_origin(there.record.origin, origin)
-}
-
-// Whether a source without a place finds none free: the lowest free place is 64.
-pub(crate) fn is_without_room(place: usize, free: usize) -> bool
-    ensures { λ r. ⌜ r ≡ (not (ltb place 64) && eqb free 64) ⌝ }
-{
-    if place < 64 {
-        return false;
-    }
-    free == 64
 }

@@ -125,14 +125,6 @@ module _ (t : Table) (source place : ℕ) (e : place ≡ placeIn t source) where
       (b : Bool) → b ≡ noRoomAt place (t .held) → b ≡ isWithoutRoom t source
   without-room-there b h = rw e at h
 
--- the number's record has another origin at one of the 64 places alone
-pub elsewhere-below :
-    (records : Rows) (place : ℕ) (origin : Origin) {b : Bool} → b ≡ true → b ≡ elsewhereAt records place origin →
-    place < 64
-elsewhere-below records place origin e f =
-    ltb-true place 64
-    (and-eq-true-iff (ltb place 64) _ .0 (sym f ∙ e) .0)
-
 -- ---- a farewell
 
 module _ (t : Table) (source place : ℕ) (origin : Origin) (e : place ≡ placeIn t source) where
@@ -218,14 +210,6 @@ pub free-place :
 free-place t source new room =
     let found : eqb (lowestFree 64 (t .held)) 64 ≡ false = rw new at room in
     omega (arith, eqb-false (lowestFree 64 (t .held)) 64 found, lowest-free-within 64 (t .held))
-
--- the same of the place that the search and the word give
-pub free-below :
-    (t : Table) (source place free : ℕ) → place ≡ placeIn t source → free ≡ lowestFree 64 (t .held) → 64 ≤ place →
-    isWithoutRoom t source ≡ false → free < 64
-free-below t source place free e f h room =
-    let new : isMember t source ≡ false = le-ltb (placeIn t source) 64 (omega (arith, e, h)) in
-    omega (arith, free-place t source new room, f)
 
 module _ (t : Table) (x : Record) (place : ℕ) (e : place ≡ placeIn t (x .source)) (members : Members) where
   pub filed-again :

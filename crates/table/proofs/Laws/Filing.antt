@@ -1,0 +1,186 @@
+-- What each return of a filing answers, from the tests that led there, and that storing it leaves the table that the
+-- call leaves.
+use Prim.Native.Nat.{ℕ, _≤_, _<_}
+use mathlib.Core.Bool.{Bool, true, false, not, cond}
+use mathlib.Core.Path.{_≡_, refl, sym, ap, _∙_}
+use lib.Dec.{ltb, eqb}
+use lib.ListN.{getD, set}
+use native.Mathlib.Omega.{arith}
+use borrow.Author.Tests.{eqb-true, eqb-false, ne-eqb, ltb-true, ltb-false, lt-ltb, le-ltb}
+use Rattle.refusals.specs.Refusals.{otherOrigin}
+use Rattle.origin.specs.Origins.{sameOrigin}
+use Rattle.places.specs.Places.{lowestFree, withPlace}
+use Rattle.places.proofs.Laws.Free.{lowest-free-within}
+use Rattle.register.specs.declared.Record.{Record}
+use Rattle.register.specs.declared.Member.{Member}
+use Rattle.register.specs.declared.Reading.{Reading}
+use Rattle.register.specs.Register.{Opening, Call, reportChecks}
+use Rattle.register.specs.Tallies.{Members, raised}
+use Rattle.register.proofs.Stands.{accepted-room}
+use Rattle.choosing.specs.Marked.{nobody}
+use Rattle.choosing.proofs.Laws.Marked.{row-at}
+use Rattle.table.specs.declared.Table.{Table}
+use Rattle.table.specs.declared.Answered.{Answered}
+use Rattle.table.specs.declared.filing.Filing.{Filing}
+use Rattle.table.specs.Members.{openingOf, recordsIn, placeIn}
+use Rattle.table.specs.Calls.{isMember, elsewhereAt, noRoomAt, numberOf, tallyAt, filed, withRaised, answered}
+use Rattle.table.specs.Filing.{renewedBy, knownFiling, newFiling, filingOf, withFiling}
+use Rattle.table.proofs.Laws.Members.{set-same}
+use Rattle.table.proofs.Laws.Cases.{call-refused, call-accepted, report-elsewhere, report-number-there}
+use Rattle.table.proofs.Laws.Cases.{report-tallied, filed-again, filed-anew, tallied-there}
+
+-- ---- the member at a number's place
+
+module _ (there : Member) (x : Record) (number : ℕ) where
+  pub renewed-tallied :
+      (tally : ℕ) → number ≡ otherOrigin → tally ≡ raised (there .tally) →
+      record { «record» = there .«record»; tally = tally } ≡ renewedBy there x number
+  renewed-tallied tally e f = rw (e, f) refl
+
+  pub renewed-kept : (number ≡ otherOrigin → ⊥) → (number ≡ 0 → ⊥) → there ≡ renewedBy there x number
+  renewed-kept h k = rw (ne-eqb number otherOrigin h, ne-eqb number 0 k) refl
+
+  pub renewed-filed : number ≡ 0 → record { «record» = x; tally = there .tally } ≡ renewedBy there x number
+  renewed-filed e = rw e refl
+
+-- ---- a filing
+
+module _ (o : Opening) (held : ℕ) (x : Record) (at : Reading) (number : ℕ) where
+  pub known-filed :
+      (place : ℕ) (there member : Member) (elsewhere : Bool) →
+      elsewhere ≡ not (sameOrigin (there .«record» .origin) (x .origin)) →
+      number ≡ reportChecks o x at elsewhere false →
+      member ≡ renewedBy there x number →
+      record { number = number; place = place; held = held; member = member } ≡ knownFiling o held place there x at
+  known-filed place there member elsewhere e f g =
+      let n : number ≡ reportChecks o x at (not (sameOrigin (there .«record» .origin) (x .origin))) false = rw e at f in
+      rw (g, n) refl
+
+  module _ (first : Member) (free : ℕ) (e : free ≡ lowestFree 64 held) (f : number ≡ reportChecks o x at false (eqb free 64)) where
+    is-number : number ≡ reportChecks o x at false (eqb (lowestFree 64 held) 64)
+    is-number = rw e at f
+
+    pub new-refused :
+        (number ≡ 0 → ⊥) →
+        record { number = number; place = 0; held = held; member = first } ≡ newFiling o held first x at
+    new-refused h =
+        let n : eqb (reportChecks o x at false (eqb (lowestFree 64 held) 64)) 0 ≡ false =
+        ne-eqb _ 0 (λ z. h (is-number ∙ z)) in
+        rw (n, is-number) refl
+
+    pub new-filed :
+        (word : ℕ) → number ≡ 0 → word ≡ withPlace held free →
+        record { number = 0; place = free; held = word; member = record { «record» = x; tally = 0 } }
+        ≡ newFiling o held first x at
+    new-filed word h g =
+        let n : reportChecks o x at false (eqb (lowestFree 64 held) 64) ≡ 0 = sym is-number ∙ h in
+        rw (n, g, e) refl
+
+    pub free-within : number ≡ 0 → free < 64
+    free-within h =
+        let room : eqb free 64 ≡ false = accepted-room o x at false (eqb free 64) (sym f ∙ h) in
+        omega (arith, eqb-false free 64 room, lowest-free-within 64 held, e)
+
+-- ---- what the search found
+
+module _ (t : Table) (x : Record) (at : Reading) (f : Filing) where
+  pub found-known :
+      (place : ℕ) → place ≡ placeIn t (x .source) → place < 64 →
+      f ≡ knownFiling (openingOf t) (t .held) place (getD (t .members) place nobody) x at → f ≡ filingOf t x at
+  unfolding filingOf
+  found-known place e h g =
+      let known : isMember t (x .source) ≡ true = lt-ltb (placeIn t (x .source)) 64 (omega (arith, e, h)) in
+      rw known (rw e at g)
+
+  pub found-none :
+      64 ≤ placeIn t (x .source) → f ≡ newFiling (openingOf t) (t .held) (getD (t .members) 0 nobody) x at →
+      f ≡ filingOf t x at
+  unfolding filingOf
+  found-none h g =
+      let new : isMember t (x .source) ≡ false = le-ltb (placeIn t (x .source)) 64 h in
+      rw new g
+
+-- ---- stored
+
+module _ (t : Table) (x : Record) (at : Reading) where
+  abbrev stores : Filing → Type 0
+  stores f = _≡_ {A = Answered} (record { number = f .number; table = withFiling t f }) (answered t (Call.report x at))
+
+  abbrev place : ℕ
+  place = placeIn t (x .source)
+
+  abbrev there : Member
+  there = getD (t .members) place nobody
+
+  -- a number's own place
+  module _ (known : place < 64) where
+    abbrev knownNumber : ℕ
+    knownNumber = reportChecks (openingOf t) x at (not (sameOrigin (there .«record» .origin) (x .origin))) false
+
+    known-number : knownNumber ≡ numberOf t (Call.report x at)
+    known-number =
+        let below : ltb place 64 ≡ true = lt-ltb place 64 known in
+        report-number-there t x at place (not (sameOrigin (there .«record» .origin) (x .origin))) false _ refl
+        (rw (below, row-at (t .members) place) refl) (rw below refl) refl
+
+    stored-known :
+        (tallied accepted : Bool) → eqb knownNumber otherOrigin ≡ tallied → eqb knownNumber 0 ≡ accepted →
+        stores (knownFiling (openingOf t) (t .held) place there x at)
+    stored-known true accepted e f =
+        let given : knownNumber ≡ otherOrigin = eqb-true knownNumber otherOrigin e in
+        rw e (report-tallied t x at place knownNumber _ known-number given refl refl)
+    stored-known false true e f =
+        let none : knownNumber ≡ 0 = eqb-true knownNumber 0 f in
+        rw (e, f, none)
+        (call-accepted t _ (Call.report x at) (sym known-number ∙ none) (filed-again t x place refl _ known refl))
+    stored-known false false e f =
+        rw (e, f)
+        (ap (λ (ms : Members). record {
+          number = knownNumber;
+          table = record { group = t .group; media = t .media; rate = t .rate; held = t .held; members = ms };
+        }) (set-same (t .members) place nobody)
+        ∙ call-refused t (Call.report x at) knownNumber known-number (eqb-false knownNumber 0 f) (eqb-false knownNumber otherOrigin e))
+
+  -- no member has the number
+  module _ (new : 64 ≤ place) where
+    abbrev newNumber : ℕ
+    newNumber = reportChecks (openingOf t) x at false (eqb (lowestFree 64 (t .held)) 64)
+
+    new-number : newNumber ≡ numberOf t (Call.report x at)
+    new-number =
+        let beyond : ltb place 64 ≡ false = le-ltb place 64 new in
+        report-number-there t x at place false (eqb (lowestFree 64 (t .held)) 64) _ refl (rw beyond refl) (rw beyond refl) refl
+
+    not-tallied : newNumber ≡ otherOrigin → ⊥
+    not-tallied e =
+        let z : false ≡ true = report-elsewhere (openingOf t) x at false (eqb (lowestFree 64 (t .held)) 64) e in
+        let wrong : _≡_ {A = ℕ} 0 1 = ap (λ (b : Bool). cond b 1 0) z in
+        omega (arith, wrong)
+
+    stored-new :
+        (accepted : Bool) → eqb newNumber 0 ≡ accepted →
+        stores (newFiling (openingOf t) (t .held) (getD (t .members) 0 nobody) x at)
+    stored-new true e =
+        let none : newNumber ≡ 0 = eqb-true newNumber 0 e in
+        rw e
+        (call-accepted t _ (Call.report x at) (sym new-number ∙ none)
+        (filed-anew t x place refl _ (lowestFree 64 (t .held)) _ new refl refl refl))
+    stored-new false e =
+        rw e
+        (ap (λ (ms : Members). record {
+          number = newNumber;
+          table = record { group = t .group; media = t .media; rate = t .rate; held = t .held; members = ms };
+        }) (set-same (t .members) 0 nobody)
+        ∙ call-refused t (Call.report x at) newNumber new-number (eqb-false newNumber 0 e) not-tallied)
+
+  pub filing-answers : (f : Filing) → f ≡ filingOf t x at → stores f
+  unfolding filingOf
+  filing-answers f e = go (isMember t (x .source)) refl
+    where
+      go : (b : Bool) → isMember t (x .source) ≡ b → stores f
+      go true k =
+          let g : f ≡ knownFiling (openingOf t) (t .held) place there x at = rw k at e in
+          rw g (stored-known (ltb-true place 64 k) _ _ refl refl)
+      go false k =
+          let g : f ≡ newFiling (openingOf t) (t .held) (getD (t .members) 0 nobody) x at = rw k at e in
+          rw g (stored-new (ltb-false place 64 k) _ refl)

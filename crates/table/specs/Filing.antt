@@ -1,0 +1,59 @@
+-- What a report does to a table, as one place: its number, the place, the member that stands there afterwards, and the
+-- word of places held. Where a report changes nothing, it is the member from before.
+use Prim.Native.Nat.{ℕ}
+use mathlib.Core.Bool.{false, not, cond}
+use lib.Dec.{eqb}
+use lib.ListN.{getD, set}
+use Rattle.origin.specs.Origins.{sameOrigin}
+use Rattle.refusals.specs.Refusals.{otherOrigin}
+use Rattle.places.specs.Places.{lowestFree, withPlace}
+use Rattle.register.specs.declared.Record.{Record}
+use Rattle.register.specs.declared.Member.{Member}
+use Rattle.register.specs.declared.Reading.{Reading}
+use Rattle.register.specs.Register.{Opening, reportChecks}
+use Rattle.register.specs.Tallies.{raised}
+use Rattle.choosing.specs.Marked.{nobody}
+use Rattle.table.specs.declared.Table.{Table}
+use Rattle.table.specs.declared.filing.Filing.{Filing}
+use Rattle.table.specs.Members.{openingOf, placeIn}
+use Rattle.table.specs.Calls.{isMember}
+
+-- the member at a number's place behind a report that got a number: 14 is tallied, and any other refusal leaves it
+abbrev pub renewedBy : Member → Record → ℕ → Member
+renewedBy there x number =
+    cond (eqb number otherOrigin) (record { «record» = there .«record»; tally = raised (there .tally) })
+    (cond (eqb number 0) (record { «record» = x; tally = there .tally }) there)
+
+-- a report of a number whose member stands at a place
+abbrev pub knownFiling : Opening → ℕ → ℕ → Member → Record → Reading → Filing
+knownFiling o held place there x at =
+    let number = reportChecks o x at (not (sameOrigin (there .«record» .origin) (x .origin))) false in
+    record { number = number; place = place; held = held; member = renewedBy there x number }
+
+-- a report of a number without a member: accepted, it stands at the lowest free place; refused, it leaves the first
+-- place with the member there
+abbrev pub newFiling : Opening → ℕ → Member → Record → Reading → Filing
+newFiling o held first x at =
+    let free = lowestFree 64 held in
+    let number = reportChecks o x at false (eqb free 64) in
+    cond (eqb number 0)
+    (record { number = 0; place = free; held = withPlace held free; member = record { «record» = x; tally = 0 } })
+    (record { number = number; place = 0; held = held; member = first })
+
+-- a report
+unfoldable pub filingOf : Table → Record → Reading → Filing
+filingOf t x at =
+    let place = placeIn t (x .source) in
+    cond (isMember t (x .source)) (knownFiling (openingOf t) (t .held) place (getD (t .members) place nobody) x at)
+    (newFiling (openingOf t) (t .held) (getD (t .members) 0 nobody) x at)
+
+-- the table with that stored: it is the one that the call leaves
+abbrev pub withFiling : Table → Filing → Table
+withFiling t f =
+    record {
+      group = t .group;
+      media = t .media;
+      rate = t .rate;
+      held = f .held;
+      members = set (t .members) (f .place) (f .member);
+    }
