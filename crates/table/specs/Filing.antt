@@ -1,7 +1,7 @@
 -- What a report does to a table, as one place: its number, the place, the member that stands there afterwards, and the
 -- word of places held. Where a report changes nothing, it is the member from before.
 use Prim.Native.Nat.{ℕ}
-use mathlib.Core.Bool.{false, not, cond}
+use mathlib.Core.Bool.{Bool, false, not, cond}
 use lib.Dec.{eqb}
 use lib.ListN.{getD, set}
 use Rattle.origin.specs.Origins.{sameOrigin}
@@ -24,23 +24,39 @@ renewedBy there x number =
     cond (eqb number otherOrigin) (record { «record» = there .«record»; tally = raised (there .tally) })
     (cond (eqb number 0) (record { «record» = x; tally = there .tally }) there)
 
--- a report of a number whose member stands at a place
+-- ---- a number with a member, which stands at a place
+
+-- its origin is another than the report's
+abbrev pub isOther : Member → Record → Bool
+isOther there x = not (sameOrigin (there .«record» .origin) (x .origin))
+
+abbrev pub knownNumber : Opening → Member → Record → Reading → ℕ
+knownNumber o there x at = reportChecks o x at (isOther there x) false
+
 abbrev pub knownFiling : Opening → ℕ → ℕ → Member → Record → Reading → Filing
 knownFiling o held place there x at =
-    let number = reportChecks o x at (not (sameOrigin (there .«record» .origin) (x .origin))) false in
+    let number = knownNumber o there x at in
     record { number = number; place = place; held = held; member = renewedBy there x number }
 
--- a report of a number without a member: accepted, it stands at the lowest free place; refused, it leaves the first
--- place with the member there
+-- ---- a number without a member
+
+abbrev pub isFull : ℕ → Bool
+isFull held = eqb (lowestFree 64 held) 64
+
+abbrev pub newNumber : Opening → ℕ → Record → Reading → ℕ
+newNumber o held x at = reportChecks o x at false (isFull held)
+
+-- accepted, it stands at the lowest free place; refused, it leaves the first place with the member there
 abbrev pub newFiling : Opening → ℕ → Member → Record → Reading → Filing
 newFiling o held first x at =
     let free = lowestFree 64 held in
-    let number = reportChecks o x at false (eqb free 64) in
+    let number = newNumber o held x at in
     cond (eqb number 0)
     (record { number = 0; place = free; held = withPlace held free; member = record { «record» = x; tally = 0 } })
     (record { number = number; place = 0; held = held; member = first })
 
--- a report
+-- ---- any number
+
 unfoldable pub filingOf : Table → Record → Reading → Filing
 filingOf t x at =
     let place = placeIn t (x .source) in

@@ -86,13 +86,14 @@ pub(crate) fn new_filing(
             member: first,
         };
     }
+    let member = Member {
+        record: x,
+        tally: 0,
+    };
     Filing {
         number: 0,
         place: free,
         held: with_place(held, free),
-        member: Member {
-            record: x,
-            tally: 0,
-        },
+        member,
     }
 }

@@ -1,14 +1,13 @@
 -- What each return of a filing answers, from the tests that led there, and that storing it leaves the table that the
 -- call leaves.
 use Prim.Native.Nat.{ℕ, _≤_, _<_}
-use mathlib.Core.Bool.{Bool, true, false, not, cond}
+use mathlib.Core.Bool.{Bool, true, false, cond}
 use mathlib.Core.Path.{_≡_, refl, sym, ap, _∙_}
 use lib.Dec.{ltb, eqb}
-use lib.ListN.{getD, set}
+use lib.ListN.{getD}
 use native.Mathlib.Omega.{arith}
 use borrow.Author.Tests.{eqb-true, eqb-false, ne-eqb, ltb-true, ltb-false, lt-ltb, le-ltb}
 use Rattle.refusals.specs.Refusals.{otherOrigin}
-use Rattle.origin.specs.Origins.{sameOrigin}
 use Rattle.places.specs.Places.{lowestFree, withPlace}
 use Rattle.places.proofs.Laws.Free.{lowest-free-within}
 use Rattle.register.specs.declared.Record.{Record}
@@ -22,12 +21,13 @@ use Rattle.choosing.proofs.Laws.Marked.{row-at}
 use Rattle.table.specs.declared.Table.{Table}
 use Rattle.table.specs.declared.Answered.{Answered}
 use Rattle.table.specs.declared.filing.Filing.{Filing}
-use Rattle.table.specs.Members.{openingOf, recordsIn, placeIn}
-use Rattle.table.specs.Calls.{isMember, elsewhereAt, noRoomAt, numberOf, tallyAt, filed, withRaised, answered}
-use Rattle.table.specs.Filing.{renewedBy, knownFiling, newFiling, filingOf, withFiling}
+use Rattle.table.specs.Members.{openingOf, placeIn}
+use Rattle.table.specs.Calls.{isMember, numberOf, answered}
+use Rattle.table.specs.Filing.{renewedBy, isOther, knownNumber, knownFiling, isFull, newNumber, newFiling}
+use Rattle.table.specs.Filing.{filingOf, withFiling}
 use Rattle.table.proofs.Laws.Members.{set-same}
 use Rattle.table.proofs.Laws.Cases.{call-refused, call-accepted, report-elsewhere, report-number-there}
-use Rattle.table.proofs.Laws.Cases.{report-tallied, filed-again, filed-anew, tallied-there}
+use Rattle.table.proofs.Laws.Cases.{report-tallied, filed-again, filed-anew}
 
 -- ---- the member at a number's place
 
@@ -47,38 +47,38 @@ module _ (there : Member) (x : Record) (number : ℕ) where
 
 module _ (o : Opening) (held : ℕ) (x : Record) (at : Reading) (number : ℕ) where
   pub known-filed :
-      (place : ℕ) (there member : Member) (elsewhere : Bool) →
-      elsewhere ≡ not (sameOrigin (there .«record» .origin) (x .origin)) →
+      (place : ℕ) (there member : Member) (elsewhere : Bool) → elsewhere ≡ isOther there x →
       number ≡ reportChecks o x at elsewhere false →
       member ≡ renewedBy there x number →
       record { number = number; place = place; held = held; member = member } ≡ knownFiling o held place there x at
   known-filed place there member elsewhere e f g =
-      let n : number ≡ reportChecks o x at (not (sameOrigin (there .«record» .origin) (x .origin))) false = rw e at f in
+      let n : number ≡ knownNumber o there x at = rw e at f in
       rw (g, n) refl
 
-  module _ (first : Member) (free : ℕ) (e : free ≡ lowestFree 64 held) (f : number ≡ reportChecks o x at false (eqb free 64)) where
-    is-number : number ≡ reportChecks o x at false (eqb (lowestFree 64 held) 64)
-    is-number = rw e at f
+  module _
+      (first : Member) (free : ℕ) (full : Bool)
+      (e : free ≡ lowestFree 64 held) (f : full ≡ eqb free 64) (g : number ≡ reportChecks o x at false full) where
+    is-number : number ≡ newNumber o held x at
+    is-number = rw (f, e) at g
 
     pub new-refused :
         (number ≡ 0 → ⊥) →
         record { number = number; place = 0; held = held; member = first } ≡ newFiling o held first x at
     new-refused h =
-        let n : eqb (reportChecks o x at false (eqb (lowestFree 64 held) 64)) 0 ≡ false =
-        ne-eqb _ 0 (λ z. h (is-number ∙ z)) in
+        let n : eqb (newNumber o held x at) 0 ≡ false = ne-eqb _ 0 (λ z. h (is-number ∙ z)) in
         rw (n, is-number) refl
 
     pub new-filed :
-        (word : ℕ) → number ≡ 0 → word ≡ withPlace held free →
-        record { number = 0; place = free; held = word; member = record { «record» = x; tally = 0 } }
-        ≡ newFiling o held first x at
-    new-filed word h g =
-        let n : reportChecks o x at false (eqb (lowestFree 64 held) 64) ≡ 0 = sym is-number ∙ h in
-        rw (n, g, e) refl
+        (word : ℕ) (member : Member) → number ≡ 0 → word ≡ withPlace held free →
+        member ≡ record { «record» = x; tally = 0 } →
+        record { number = 0; place = free; held = word; member = member } ≡ newFiling o held first x at
+    new-filed word member h k m =
+        let n : newNumber o held x at ≡ 0 = sym is-number ∙ h in
+        rw (n, m, k, e) refl
 
     pub free-within : number ≡ 0 → free < 64
     free-within h =
-        let room : eqb free 64 ≡ false = accepted-room o x at false (eqb free 64) (sym f ∙ h) in
+        let room : eqb free 64 ≡ false = sym f ∙ accepted-room o x at false full (sym g ∙ h) in
         omega (arith, eqb-false free 64 room, lowest-free-within 64 held, e)
 
 -- ---- what the search found
@@ -86,11 +86,13 @@ module _ (o : Opening) (held : ℕ) (x : Record) (at : Reading) (number : ℕ) w
 module _ (t : Table) (x : Record) (at : Reading) (f : Filing) where
   pub found-known :
       (place : ℕ) → place ≡ placeIn t (x .source) → place < 64 →
-      f ≡ knownFiling (openingOf t) (t .held) place (getD (t .members) place nobody) x at → f ≡ filingOf t x at
+      f ≡ knownFiling (openingOf t) (t .held) place (getD (t .members) place nobody) x at →
+      (f ≡ filingOf t x at) × (f .place < 64)
   unfolding filingOf
   found-known place e h g =
       let known : isMember t (x .source) ≡ true = lt-ltb (placeIn t (x .source)) 64 (omega (arith, e, h)) in
-      rw known (rw e at g)
+      let same : f .place ≡ place = ap (λ (h : Filing). h .place) g in
+      (rw known (rw e at g), omega (arith, h, same))
 
   pub found-none :
       64 ≤ placeIn t (x .source) → f ≡ newFiling (openingOf t) (t .held) (getD (t .members) 0 nobody) x at →
@@ -106,6 +108,14 @@ module _ (t : Table) (x : Record) (at : Reading) where
   abbrev stores : Filing → Type 0
   stores f = _≡_ {A = Answered} (record { number = f .number; table = withFiling t f }) (answered t (Call.report x at))
 
+  -- the table with other members
+  abbrev kept : ℕ → Members → Answered
+  kept number ms =
+      record {
+        number = number;
+        table = record { group = t .group; media = t .media; rate = t .rate; held = t .held; members = ms };
+      }
+
   abbrev place : ℕ
   place = placeIn t (x .source)
 
@@ -114,64 +124,58 @@ module _ (t : Table) (x : Record) (at : Reading) where
 
   -- a number's own place
   module _ (known : place < 64) where
-    abbrev knownNumber : ℕ
-    knownNumber = reportChecks (openingOf t) x at (not (sameOrigin (there .«record» .origin) (x .origin))) false
+    abbrev Known : ℕ
+    Known = knownNumber (openingOf t) there x at
 
-    known-number : knownNumber ≡ numberOf t (Call.report x at)
+    known-number : Known ≡ numberOf t (Call.report x at)
     known-number =
         let below : ltb place 64 ≡ true = lt-ltb place 64 known in
-        report-number-there t x at place (not (sameOrigin (there .«record» .origin) (x .origin))) false _ refl
+        report-number-there t x at place (isOther there x) false _ refl
         (rw (below, row-at (t .members) place) refl) (rw below refl) refl
 
     stored-known :
-        (tallied accepted : Bool) → eqb knownNumber otherOrigin ≡ tallied → eqb knownNumber 0 ≡ accepted →
+        (tallied accepted : Bool) → eqb Known otherOrigin ≡ tallied → eqb Known 0 ≡ accepted →
         stores (knownFiling (openingOf t) (t .held) place there x at)
     stored-known true accepted e f =
-        let given : knownNumber ≡ otherOrigin = eqb-true knownNumber otherOrigin e in
-        rw e (report-tallied t x at place knownNumber _ known-number given refl refl)
+        let given : Known ≡ otherOrigin = eqb-true Known otherOrigin e in
+        rw e (report-tallied t x at place Known _ known-number given refl refl)
     stored-known false true e f =
-        let none : knownNumber ≡ 0 = eqb-true knownNumber 0 f in
+        let none : Known ≡ 0 = eqb-true Known 0 f in
         rw (e, f, none)
         (call-accepted t _ (Call.report x at) (sym known-number ∙ none) (filed-again t x place refl _ known refl))
     stored-known false false e f =
         rw (e, f)
-        (ap (λ (ms : Members). record {
-          number = knownNumber;
-          table = record { group = t .group; media = t .media; rate = t .rate; held = t .held; members = ms };
-        }) (set-same (t .members) place nobody)
-        ∙ call-refused t (Call.report x at) knownNumber known-number (eqb-false knownNumber 0 f) (eqb-false knownNumber otherOrigin e))
+        (ap (kept Known) (set-same (t .members) place nobody)
+        ∙ call-refused t (Call.report x at) Known known-number (eqb-false Known 0 f) (eqb-false Known otherOrigin e))
 
   -- no member has the number
   module _ (new : 64 ≤ place) where
-    abbrev newNumber : ℕ
-    newNumber = reportChecks (openingOf t) x at false (eqb (lowestFree 64 (t .held)) 64)
+    abbrev New : ℕ
+    New = newNumber (openingOf t) (t .held) x at
 
-    new-number : newNumber ≡ numberOf t (Call.report x at)
+    new-number : New ≡ numberOf t (Call.report x at)
     new-number =
         let beyond : ltb place 64 ≡ false = le-ltb place 64 new in
-        report-number-there t x at place false (eqb (lowestFree 64 (t .held)) 64) _ refl (rw beyond refl) (rw beyond refl) refl
+        report-number-there t x at place false (isFull (t .held)) _ refl (rw beyond refl) (rw beyond refl) refl
 
-    not-tallied : newNumber ≡ otherOrigin → ⊥
+    not-tallied : New ≡ otherOrigin → ⊥
     not-tallied e =
-        let z : false ≡ true = report-elsewhere (openingOf t) x at false (eqb (lowestFree 64 (t .held)) 64) e in
-        let wrong : _≡_ {A = ℕ} 0 1 = ap (λ (b : Bool). cond b 1 0) z in
+        let wrong : _≡_ {A = ℕ} 0 1 =
+        ap (λ (b : Bool). cond b 1 0) (report-elsewhere (openingOf t) x at false (isFull (t .held)) e) in
         omega (arith, wrong)
 
     stored-new :
-        (accepted : Bool) → eqb newNumber 0 ≡ accepted →
+        (accepted : Bool) → eqb New 0 ≡ accepted →
         stores (newFiling (openingOf t) (t .held) (getD (t .members) 0 nobody) x at)
     stored-new true e =
-        let none : newNumber ≡ 0 = eqb-true newNumber 0 e in
+        let none : New ≡ 0 = eqb-true New 0 e in
         rw e
         (call-accepted t _ (Call.report x at) (sym new-number ∙ none)
         (filed-anew t x place refl _ (lowestFree 64 (t .held)) _ new refl refl refl))
     stored-new false e =
         rw e
-        (ap (λ (ms : Members). record {
-          number = newNumber;
-          table = record { group = t .group; media = t .media; rate = t .rate; held = t .held; members = ms };
-        }) (set-same (t .members) 0 nobody)
-        ∙ call-refused t (Call.report x at) newNumber new-number (eqb-false newNumber 0 e) not-tallied)
+        (ap (kept New) (set-same (t .members) 0 nobody)
+        ∙ call-refused t (Call.report x at) New new-number (eqb-false New 0 e) not-tallied)
 
   pub filing-answers : (f : Filing) → f ≡ filingOf t x at → stores f
   unfolding filingOf

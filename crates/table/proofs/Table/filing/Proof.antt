@@ -9,7 +9,6 @@ use borrow.Author.Needs.{needs}
 use Rattle.register.proofs.Member as M
 use Rattle.register.proofs.Tallies.{length-rows}
 use Rattle.choosing.proofs.Laws.Marked.{row-at}
-use Rattle.table.specs.declared.filing.Filing.{Filing}
 use Rattle.table.specs.Members.{recordsIn, placeOf, placeIn}
 use Rattle.table.proofs.Laws.Search.{place-here, place-beyond, place-end}
 use Rattle.table.proofs.Laws.Filing.{found-known, found-none}
@@ -57,8 +56,7 @@ returns c =
     place-here (x .source) (loop .word) (recordsIn t) (loop .i) (omega (arith, len, length-rows (t .members)))
     (rw (row-at (t .members) (loop .i)) (sym (found .before .is-held-by .ensures) ∙ found .if1 .taken)) in
     let place : _≡_ {A = ℕ} (loop .i) (placeIn t (x .source)) = omega (arith, e, loop .inv .1) in
-    let below : _≡_ {A = ℕ} (c .known-filing .result .place) (loop .i) = ap (λ (f : Filing). f .place) (c .known-filing .ensures) in
-    (found-known t x (start .args .at) _ (loop .i) place (omega arith) (c .known-filing .ensures), omega (arith, below))
+    found-known t x (start .args .at) _ (loop .i) place (omega arith) (c .known-filing .ensures)
 
 add-i : tie.Need-add-i Inv-loop μ-loop
 add-i c = omega arith

@@ -1,5 +1,5 @@
 -- Refused, or filed at the lowest free place, which is below 64: there was room.
-use Prim.Native.Nat.{_<_}
+use mathlib.Core.Path.{refl}
 use native.Mathlib.Omega.{arith}
 use borrow.Author.Needs.{needs}
 use Rattle.table.proofs.Laws.Filing.{new-refused, new-filed, free-within}
@@ -17,8 +17,11 @@ report-number-requires c κs = search needs
 
 returns : tie.Need-returns
 returns c =
-    let called = c .before in
-    (new-refused _ _ _ _ _ _ _ (called .before .lowest-free .ensures .0) (called .report-number .ensures) (c .if1 .taken), omega arith)
+    let called = c .before in (
+      new-refused _ _ _ _ _ _ _ _ (called .before .lowest-free .ensures .0) refl (called .report-number .ensures)
+          (c .if1 .taken),
+      omega arith,
+    )
 
 with-place-requires : tie.Need-with-place-requires
 with-place-requires c κs = search needs
@@ -26,10 +29,11 @@ with-place-requires c κs = search needs
 returns-2 : tie.Need-returns-2
 returns-2 c =
     let called = c .before .before in
+    let first = called .before .before .args .first in
     let free = called .before .lowest-free .ensures .0 in
     let number = called .report-number .ensures in (
-      new-filed _ _ _ _ _ (called .before .before .args .first) _ free number _ (c .before .if1 .left) (c .with-place .ensures),
-      free-within _ _ _ _ _ (called .before .before .args .first) _ free number (c .before .if1 .left),
+      new-filed _ _ _ _ _ first _ _ free refl number _ _ (c .before .if1 .left) (c .with-place .ensures) refl,
+      free-within _ _ _ _ _ first _ _ free refl number (c .before .if1 .left),
     )
 
 pub new-filing-spec : {M : Type 1} → statement M
