@@ -60,6 +60,14 @@ extern "C" {
     ) -> Answer;
     pub fn prunepocket_open(group: u32, media: u32, rate: u32) -> Answered;
     pub fn prunepocket_report(table: Table, record: Record, reading: Reading) -> Answered;
+    pub fn prunepocket_report_burst(
+        table: Table,
+        reports: *const Record,
+        reports_length: usize,
+        reading: Reading,
+        answers: *mut u64,
+        answers_length: usize,
+    ) -> Answered;
     pub fn prunepocket_farewell(table: Table, source: u32, origin: Origin) -> Answered;
     pub fn prunepocket_sweep(table: Table, reading: Reading) -> Answered;
     pub fn prunepocket_take_datagram(

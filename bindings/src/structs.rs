@@ -117,7 +117,7 @@ c_structs! {
         pub members: [Member; PLACES],
     }
 
-    /// What opening, a report, a farewell and a sweep answer.
+    /// What opening, a report, a burst, a farewell and a sweep answer.
     pub struct Answered {
         pub number: u64,
         /// The table afterwards.

@@ -2,7 +2,8 @@
 
 use crate::functions::{
     prunepocket_choose, prunepocket_count_members, prunepocket_farewell, prunepocket_member_at,
-    prunepocket_open, prunepocket_report, prunepocket_sweep, prunepocket_take_datagram,
+    prunepocket_open, prunepocket_report, prunepocket_report_burst, prunepocket_sweep,
+    prunepocket_take_datagram,
 };
 use crate::structs::{
     Answered, DatagramAnswered, Followed, Origin, Place, Reading, Record, Table, Target,
@@ -24,6 +25,28 @@ impl Table {
     pub fn report(&self, record: &Record, reading: &Reading) -> Answered {
         // SAFETY: all arguments are passed by value, and any bits are good.
         unsafe { prunepocket_report(*self, *record, *reading) }
+    }
+
+    /// Lends `answers`, the list that the reports' numbers go to.
+    #[inline]
+    pub fn report_burst(
+        &self,
+        reports: &[Record],
+        reading: &Reading,
+        answers: &mut [u64],
+    ) -> Answered {
+        // SAFETY: as for report; pointers and lengths come from live slices,
+        // which share no memory; the pointer of an empty slice is not null.
+        unsafe {
+            prunepocket_report_burst(
+                *self,
+                reports.as_ptr(),
+                reports.len(),
+                *reading,
+                answers.as_mut_ptr(),
+                answers.len(),
+            )
+        }
     }
 
     #[inline]
@@ -49,8 +72,7 @@ impl Table {
         reading: &Reading,
         answers: &mut [u64],
     ) -> DatagramAnswered {
-        // SAFETY: as for report; pointers and lengths come from live slices,
-        // which share no memory; the pointer of an empty slice is not null.
+        // SAFETY: as for report_burst.
         unsafe {
             prunepocket_take_datagram(
                 *self,
