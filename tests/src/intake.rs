@@ -6,6 +6,7 @@
 //! find.
 
 use crate::arrivals::Arrival;
+use crate::burst::Taker;
 use crate::decoder::decode;
 use crate::items::{Item, PlacedItem, Refusal};
 use crate::members::{Call, Choice, Member, Opening, Reading, Record, ReportFields};
@@ -247,6 +248,17 @@ impl Intake {
             });
             *held = None;
         }
+    }
+
+    /// The burst's number; those of its reports go to the list.
+    pub fn burst(&mut self, reports: &[Record], reading: &Reading, list: &mut [u64]) -> u64 {
+        let fault = match self.fault {
+            Some(Fault::Register(register::Fault::Burst(fault))) => Some(fault),
+            _ => None,
+        };
+        let call = Intake::call;
+        let side = self;
+        Taker { side, call, fault }.take(reports, reading, list)
     }
 
     /// Takes a whole datagram, with this list for the calls' numbers.

@@ -4,6 +4,8 @@
 
 pub mod archive;
 pub mod arrivals;
+pub mod burst;
+pub mod burst_steps;
 pub mod call_history;
 pub mod cases;
 pub mod compare;

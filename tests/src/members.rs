@@ -30,5 +30,14 @@ impl Call {
     }
 }
 
+/// Reports that are taken at once, under one reading.
+#[derive(Clone, Debug, PartialEq, Eq)]
+pub struct Burst {
+    pub reports: Vec<Record>,
+    pub reading: Reading,
+    /// The list that is lent, as it is beforehand.
+    pub list: Vec<u64>,
+}
+
 /// The target, or a refusal's number.
 pub type Choice = Result<Target, u64>;

@@ -5,6 +5,7 @@
 //! As in the decoder, a `Fault` plants one error that the comparison has to
 //! find.
 
+use crate::burst::{self, Taker};
 use crate::call_history::{self, Before, CallHistory};
 use crate::members::{
     Call, Choice, Member, Opening, Origin, Reading, Record, ReportFields, Target,
@@ -104,6 +105,8 @@ pub enum Fault {
     PresentedInArrival,
     /// The tallies err.
     CallHistory(call_history::Fault),
+    /// Bursts err.
+    Burst(burst::Fault),
 }
 
 impl Fault {
@@ -155,7 +158,7 @@ impl Fault {
         Fault::PresentedInArrival,
     ];
 
-    /// All but those of the tallies.
+    /// All but those of the tallies and of bursts.
     pub fn all() -> Vec<Fault> {
         let swaps = (13..18).map(Fault::Swapped);
         let bytes = (0..ORIGIN_BYTES).map(Fault::OriginByteIgnored);
@@ -261,6 +264,17 @@ impl Register {
         };
         self.calls.add(call, number, &before);
         number
+    }
+
+    /// The burst's number; those of its reports go to the list.
+    pub fn burst(&mut self, reports: &[Record], reading: &Reading, list: &mut [u64]) -> u64 {
+        let fault = match self.fault {
+            Some(Fault::Burst(fault)) => Some(fault),
+            _ => None,
+        };
+        let call = Register::call;
+        let side = self;
+        Taker { side, call, fault }.take(reports, reading, list)
     }
 
     fn report(&mut self, told: &Record, reading: &Reading) -> u64 {

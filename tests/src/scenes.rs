@@ -1,8 +1,9 @@
 //! Runs the scenes of the receiving bench's text on a side, and holds every
 //! answer against the text's own. README.md has the form of the text.
 
+use crate::burst_steps::{check_kept, BurstSteps};
 use crate::cases::parse_bytes;
-use crate::compare::{same, Verdict};
+use crate::compare::{same, Verdict, BEFORE};
 use crate::encoder::Message;
 use crate::members::{Call, Choice, Opening, Origin, Reading, Record, ReportFields, Target};
 use crate::places::PLACES;
@@ -26,9 +27,15 @@ const PAYLOAD_TYPE: u8 = 33;
 /// What `fill` sends: the words of P1's report behind source and origin.
 const P1: [&str; 3] = ["999", "8910000", "0x03E78000"];
 
-/// How many steps were run, or the first line that was not understood or got
-/// another answer.
-pub fn run<S: Side>(text: &str) -> Result<usize, String> {
+/// How many steps were run, and how many answers were compared.
+#[derive(Clone, Copy, Debug, PartialEq, Eq)]
+pub struct Ran {
+    pub steps: usize,
+    pub answers: usize,
+}
+
+/// What was run, or the first line that was not understood or got another answer.
+pub fn run<S: Side>(text: &str) -> Result<Ran, String> {
     let mut bench = Bench::<S>::new()?;
     let mut steps = 0;
     for (index, line) in text.lines().enumerate() {
@@ -40,7 +47,13 @@ pub fn run<S: Side>(text: &str) -> Result<usize, String> {
         verdict.map_err(|wrong| format!("line {}: {line}: {wrong}", index + 1))?;
         steps += 1;
     }
-    Ok(steps)
+    match bench.burst {
+        None => Ok(Ran {
+            steps,
+            answers: bench.answers,
+        }),
+        Some(_) => Err(String::from("the last burst lacks reports")),
+    }
 }
 
 /// A side, and what steps leave for the steps behind them.
@@ -57,6 +70,10 @@ struct Bench<S> {
     reduced_size: bool,
     last_report: Option<Record>,
     target: Option<Target>,
+    /// A burst that lacks reports.
+    burst: Option<BurstSteps>,
+    /// How many answers were the text's.
+    answers: usize,
 }
 
 impl<S: Side> Bench<S> {
@@ -72,10 +89,26 @@ impl<S: Side> Bench<S> {
             reduced_size: false,
             last_report: None,
             target: None,
+            burst: None,
+            answers: 0,
         })
     }
 
     fn run(&mut self, step: &str) -> Verdict {
+        let (asked, due) = words(step);
+        if let Some(burst) = self.burst.take() {
+            return self.gather(burst, &asked, &due);
+        }
+        if let (["burst", reports, length], [due]) = (&asked[..], &due[..]) {
+            return self.start_burst(number(reports)?, number(length)?, number(due)?);
+        }
+        self.run_alone(step)?;
+        self.answers += usize::from(!is_setting(asked[0]));
+        Ok(())
+    }
+
+    /// A step that is not of a burst.
+    fn run_alone(&mut self, step: &str) -> Verdict {
         // A TEXT may have spaces, so it is not taken apart into words.
         if let Some(step) = step.strip_prefix("line ") {
             return read_line::<S>(step);
@@ -83,9 +116,7 @@ impl<S: Side> Bench<S> {
         if let Some(step) = step.strip_prefix("write line ") {
             return write_line::<S>(step);
         }
-        let (asked, due) = step.split_once(" = ").unwrap_or((step, ""));
-        let asked: Vec<&str> = asked.split(' ').collect();
-        let due: Vec<&str> = due.split_whitespace().collect();
+        let (asked, due) = words(step);
         match (&asked[..], &due[..]) {
             (["take", origin], due) => {
                 let origin = parse_origin(origin)?;
@@ -96,6 +127,56 @@ impl<S: Side> Bench<S> {
             (asked, [due]) if is_call(asked[0]) => is(self.call(asked)?, number(due)?),
             (asked, due) => self.look(asked, due),
         }
+    }
+
+    /// A burst that is to be refused has no steps, and reports of its own: none of
+    /// them is tried.
+    fn start_burst(&mut self, reports: usize, length: usize, due: u64) -> Verdict {
+        if due == 0 {
+            return self.take_if_complete(BurstSteps::new(reports, length));
+        }
+        let reports = self.plain_records(1, reports as u32)?;
+        let (number, list) = self.make_burst(&reports, length);
+        is(number, due)?;
+        check_kept(&list)?;
+        self.answers += 1;
+        Ok(())
+    }
+
+    /// A step that gives the burst reports, or the stream of the reports behind it.
+    fn gather(&mut self, mut burst: BurstSteps, asked: &[&str], due: &[&str]) -> Verdict {
+        match (asked, due) {
+            (["stream", ..], []) => self.set(asked)?,
+            (["report", fields @ ..], [due]) => burst.add(&[self.record(fields)?], number(due)?),
+            (["fill", first, last], [due]) => {
+                let reports = self.plain_records(number(first)?, number(last)?)?;
+                self.last_report = reports.last().copied().or(self.last_report);
+                burst.add(&reports, number(due)?);
+            }
+            _ => return Err(String::from("the burst before it lacks reports")),
+        }
+        self.take_if_complete(burst)
+    }
+
+    fn take_if_complete(&mut self, burst: BurstSteps) -> Verdict {
+        if !burst.is_complete()? {
+            self.burst = Some(burst);
+            return Ok(());
+        }
+        let (number, list) = self.make_burst(&burst.reports, burst.length);
+        is(number, 0)?;
+        burst.check(&list)?;
+        self.answers += burst.answers();
+        Ok(())
+    }
+
+    /// The burst's number, and its list with one number more, which is not lent.
+    fn make_burst(&mut self, reports: &[Record], length: usize) -> (u64, Vec<u64>) {
+        self.before = self.side.clone();
+        let mut list = vec![BEFORE; length + 1];
+        let lent = &mut list[..length];
+        let number = self.side.burst(reports, &self.reading, lent);
+        (number, list)
     }
 
     /// What the steps behind it are told.
@@ -260,15 +341,23 @@ impl<S: Side> Bench<S> {
     fn fill(&mut self, first: u32, last: u32) -> Result<u64, String> {
         let before = self.side.clone();
         let mut answer = 0;
-        for source in first..=last {
-            let origin = format!("192.0.2.1:{}", 5000 + source);
-            let [received, rtp, presented] = P1;
-            let record = self.record(&[&source.to_string(), &origin, received, rtp, presented])?;
+        for record in self.plain_records(first, last)? {
+            self.last_report = Some(record);
             let number = self.send_report(&record)?;
             answer = if number == 0 { answer } else { number };
         }
         self.before = before;
         Ok(answer)
+    }
+
+    /// P1's fields from each of these sources, and a port for each.
+    fn plain_records(&self, first: u32, last: u32) -> Result<Vec<Record>, String> {
+        let [received, rtp, presented] = P1;
+        let plain = |source: u32| {
+            let origin = format!("192.0.2.1:{}", 5000 + source);
+            self.parse_record(&[&source.to_string(), &origin, received, rtp, presented])
+        };
+        (first..=last).map(plain).collect()
     }
 
     /// The choice is as defined for the members that the side shows.
@@ -305,7 +394,14 @@ impl<S: Side> Bench<S> {
         same(format_args!("the target"), &now, &then)
     }
 
+    /// The report of a step, which is the last one from then on.
     fn record(&mut self, fields: &[&str]) -> Result<Record, String> {
+        let record = self.parse_record(fields)?;
+        self.last_report = Some(record);
+        Ok(record)
+    }
+
+    fn parse_record(&self, fields: &[&str]) -> Result<Record, String> {
         let [source, origin, received, rtp, presented] = fields else {
             return Err(String::from("not the fields of a report"));
         };
@@ -313,7 +409,7 @@ impl<S: Side> Bench<S> {
             "-" => (0, 0),
             presented => (1, number(presented)?),
         };
-        let record = Record {
+        Ok(Record {
             source: number(source)?,
             origin: parse_origin(origin)?,
             report: ReportFields {
@@ -325,9 +421,7 @@ impl<S: Side> Bench<S> {
                 payload_type: PAYLOAD_TYPE,
                 p,
             },
-        };
-        self.last_report = Some(record);
-        Ok(record)
+        })
     }
 
     fn choice(&self, words: &[&str]) -> Result<Choice, String> {
@@ -348,6 +442,12 @@ impl<S: Side> Bench<S> {
             _ => Err(String::from("not a choice")),
         }
     }
+}
+
+/// The words of a step, and those of its expected answer.
+fn words(step: &str) -> (Vec<&str>, Vec<&str>) {
+    let (asked, due) = step.split_once(" = ").unwrap_or((step, ""));
+    (asked.split(' ').collect(), due.split_whitespace().collect())
 }
 
 fn read_line<S: Side>(step: &str) -> Verdict {
@@ -382,7 +482,6 @@ fn records(side: &impl Side) -> Vec<Record> {
     members.map(|member| member.record).collect()
 }
 
-/// 0 where there is no member.
 /// The tally of the member at a place, if there is one.
 fn tally_at(side: &impl Side, place: usize) -> Option<u32> {
     side.member_at(place).map(|member| member.tally)
@@ -544,19 +643,24 @@ fn holder(words: &[&str]) -> Result<Option<(u32, Origin)>, String> {
 
 #[cfg(test)]
 mod tests {
-    use super::run;
+    use super::{run, Ran};
     use crate::intake::Intake;
 
     const REPORT: &str = "  report 10 192.0.2.1:5010 999 8910000 0x03E78000";
 
+    fn steps(text: &str) -> Result<usize, String> {
+        run::<Intake>(text).map(|ran| ran.steps)
+    }
+
     fn fails(text: &str) -> bool {
-        run::<Intake>(text).is_err()
+        steps(text).is_err()
     }
 
     #[test]
-    fn steps_are_counted() {
+    fn steps_and_answers_are_counted() {
         let text = format!("A scene.\n  table\n{REPORT} = 0\n\n  members = 1\n");
-        assert_eq!(run::<Intake>(&text), Ok(3));
+        let (steps, answers) = (3, 2);
+        assert_eq!(run::<Intake>(&text), Ok(Ran { steps, answers }));
     }
 
     #[test]
@@ -589,11 +693,7 @@ mod tests {
             "tally 64 = none",
             "unchanged but tally 0 = 2",
         ] {
-            assert_eq!(
-                run::<Intake>(&format!("{start}  {step}\n")),
-                Ok(4),
-                "{step}"
-            );
+            assert_eq!(steps(&format!("{start}  {step}\n")), Ok(4), "{step}");
         }
         for step in [
             "unchanged",
@@ -610,10 +710,10 @@ mod tests {
         }
         let own = format!("{start}{REPORT} = 0\n");
         for step in ["tally 0 = 2", "unchanged", "unchanged but tally 0 = 2"] {
-            assert_eq!(run::<Intake>(&format!("{own}  {step}\n")), Ok(5), "{step}");
+            assert_eq!(steps(&format!("{own}  {step}\n")), Ok(5), "{step}");
         }
         let left = format!("{start}  farewell 10 192.0.2.1:5010 = 0\n");
-        assert_eq!(run::<Intake>(&format!("{left}  tally 0 = none\n")), Ok(5));
+        assert_eq!(steps(&format!("{left}  tally 0 = none\n")), Ok(5));
         for step in [
             "tally 0 = 0",
             "unchanged but tally 0 = 0",
@@ -627,8 +727,78 @@ mod tests {
     fn the_tally_of_any_place_can_be_left_out() {
         for place in [0, 63] {
             let step = format!("  unchanged but tally {place} = 0\n");
-            assert_eq!(run::<Intake>(&step), Ok(1));
+            assert_eq!(steps(&step), Ok(1));
         }
+    }
+
+    #[test]
+    fn a_burst_has_the_reports_of_the_steps_behind_it() {
+        let start = format!("  burst 5 6 = 0\nProse.\n{REPORT} = 0\n{TWIN} = 14\n");
+        let other = format!("  stream 43 7\n{REPORT} = 13\n  stream 42 7\n");
+        let text = format!("{start}{other}  fill 1 2 = 0\n");
+        let behind = "  members = 3\n  tally 0 = 1\n  place 2 = 2 192.0.2.1:5002\n";
+        let ran = Ran {
+            steps: 10,
+            answers: 8,
+        };
+        assert_eq!(run::<Intake>(&format!("{text}{behind}")), Ok(ran));
+        assert!(fails(&text.replace("= 14", "= 0")));
+        assert!(fails(&text.replace("= 13", "= 15")));
+        assert!(fails(&text.replace("fill 1 2 = 0", "fill 1 2 = 18")));
+        assert!(fails(&format!("{text}  unchanged\n")));
+        let again = format!("{text}  burst 2 2 = 0\n  fill 1 2 = 0\n  unchanged\n");
+        assert_eq!(steps(&again), Ok(10));
+    }
+
+    #[test]
+    fn a_fill_in_a_burst_gets_its_last_refusal() {
+        let text = "  fill 1 63 = 0\n  burst 4 4 = 0\n";
+        assert_eq!(steps(&format!("{text}  fill 63 66 = 18\n")), Ok(3));
+        assert!(fails(&format!("{text}  fill 63 66 = 0\n")));
+        let text = "  fill 10 10 = 0\n  burst 2 2 = 0\n";
+        assert_eq!(steps(&format!("{text}{TWIN} = 14\n{REPORT} = 0\n")), Ok(4));
+    }
+
+    #[test]
+    fn a_refused_burst_has_no_steps() {
+        for (burst, other) in [
+            ("burst 65 65 = 23", "burst 65 65 = 24"),
+            ("burst 65 64 = 23", "burst 65 64 = 24"),
+            ("burst 64 63 = 24", "burst 64 63 = 23"),
+            ("burst 1 0 = 24", "burst 1 0 = 14"),
+        ] {
+            let text = format!("{REPORT} = 0\n  {burst}\n  unchanged\n  members = 1\n");
+            assert_eq!(steps(&text), Ok(4), "{burst}");
+            assert!(fails(&text.replace(burst, other)), "{other}");
+        }
+        for burst in ["burst 1 1 = 24", "burst 64 64 = 23", "burst 0 0 = 24"] {
+            assert!(fails(&format!("  {burst}\n")), "{burst}");
+        }
+    }
+
+    #[test]
+    fn a_burst_that_lacks_its_reports_fails() {
+        let burst = "  burst 2 2 = 0\n";
+        assert_eq!(
+            steps(&format!("{burst}{REPORT} = 0\n{REPORT} = 0\n")),
+            Ok(3)
+        );
+        assert!(fails(&format!("{burst}{REPORT} = 0\n")));
+        for behind in [
+            "  members = 1\n",
+            "  table\n",
+            "  reading 1000 9000000\n",
+            "  burst 0 0 = 0\n",
+            "  line \"\" = refused 21\n",
+            "  unchanged\n",
+        ] {
+            let text = format!("{burst}{REPORT} = 0\n{behind}");
+            assert!(fails(&text), "{behind}");
+            assert!(fails(&format!("{text}{REPORT} = 0\n")), "{behind}");
+        }
+        assert!(fails(&format!("{burst}  fill 1 3 = 0\n")));
+        assert!(fails("  burst 2 1 = 0\n  fill 1 2 = 0\n"));
+        assert_eq!(steps("  burst 0 0 = 0\n  unchanged\n"), Ok(2));
     }
 
     #[test]
@@ -639,7 +809,7 @@ mod tests {
             "  items = refused 4 0\n  item 0 = refused 4 0\n  take 192.0.2.1:5010 = refused 4 0\n";
         let start = format!("{bye}{four}  reduced size agreed\n{walked}");
         for step in ["  reduced size not agreed\n", "  table\n"] {
-            assert_eq!(run::<Intake>(&format!("{start}{step}{four}")), Ok(12));
+            assert_eq!(steps(&format!("{start}{step}{four}")), Ok(12));
         }
         for step in ["", "  open 42 7 90000 = 0\n", "  reading 1 0\n"] {
             assert!(fails(&format!("{start}{step}{four}")), "{step}");
@@ -652,7 +822,7 @@ mod tests {
         let read = format!("  line {text} = 42\n  line {text} = 0x2A\n");
         let written = format!("  write line 0x2A = {text}\n");
         let refused = "  line \"a = \\x\" = refused 21\n";
-        assert_eq!(run::<Intake>(&[&read, &written, refused].concat()), Ok(4));
+        assert_eq!(steps(&[&read, &written, refused].concat()), Ok(4));
     }
 
     const NOT_UNDERSTOOD: &[&str] = &[
@@ -670,6 +840,11 @@ mod tests {
         "  tally = 0",
         "  tally 0 = free",
         "  table = 0",
+        "  burst",
+        "  burst 0 0",
+        "  burst 0 = 0",
+        "  burst 0 0 0 = 0",
+        "  burst 0 0 = free",
         "  reduced size",
         "  reduced size agreed = 0",
         "  reduced size not",

@@ -6,7 +6,7 @@ use crate::arrivals::Arrival;
 use crate::decoder::decode;
 use crate::encoder::Message;
 use crate::intake::{Answer, Intake};
-use crate::members::{Call, Choice, Member, Opening, Origin, Reading};
+use crate::members::{Call, Choice, Member, Opening, Origin, Reading, Record};
 use crate::sync_group::{self, LONGEST_LINE};
 use prunepocket_sys::{count_items, item_field, Refusal, Table};
 use prunepocket_sys::{read_sync_group, write_sync_group};
@@ -18,6 +18,8 @@ const MOST_CALLS: usize = 512;
 pub trait Side: Clone {
     fn open(opening: &Opening) -> Result<Self, u64>;
     fn call(&mut self, call: &Call) -> u64;
+    /// The number of a burst; those of its reports go to the list.
+    fn burst(&mut self, reports: &[Record], reading: &Reading, list: &mut [u64]) -> u64;
     /// The number of each call that a whole datagram makes.
     fn take(
         &mut self,
@@ -58,6 +60,12 @@ impl Side for Table {
 
     fn call(&mut self, call: &Call) -> u64 {
         let answered = archive::call(self, call);
+        *self = answered.table;
+        answered.number
+    }
+
+    fn burst(&mut self, reports: &[Record], reading: &Reading, list: &mut [u64]) -> u64 {
+        let answered = self.report_burst(reports, reading, list);
         *self = answered.table;
         answered.number
     }
@@ -132,6 +140,10 @@ impl Side for Intake {
 
     fn call(&mut self, call: &Call) -> u64 {
         Intake::call(self, call)
+    }
+
+    fn burst(&mut self, reports: &[Record], reading: &Reading, list: &mut [u64]) -> u64 {
+        Intake::burst(self, reports, reading, list)
     }
 
     fn take(
