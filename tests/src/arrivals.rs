@@ -6,7 +6,7 @@ use crate::decoder::decode;
 use crate::generator::{self, Compound, Rng};
 use crate::histories::{history_with_world, Step, World};
 use crate::items::{Item, Report, Settings};
-use crate::members::{Call, Opening, Origin, Reading};
+use crate::members::{Burst, Call, Opening, Origin, Reading};
 
 /// The most events behind the calls of the history.
 const MOST_EVENTS: usize = 40;
@@ -28,6 +28,7 @@ pub struct Arrival {
 #[derive(Clone, Debug, PartialEq, Eq)]
 pub enum Event {
     Call(Call),
+    Burst(Burst),
     Arrival(Arrival),
     /// As that of a history.
     SetTally(u32, u32),
@@ -44,6 +45,7 @@ pub fn course(rng: &mut Rng) -> Course {
     let (history, mut world) = history_with_world(rng);
     let calls = history.steps.into_iter().filter_map(|step| match step {
         Step::Call(call) => Some(Event::Call(call)),
+        Step::Burst(burst) => Some(Event::Burst(burst)),
         Step::Choose(_) | Step::Members | Step::SetTally(..) => None,
     });
     let mut events: Vec<Event> = calls.collect();

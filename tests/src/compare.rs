@@ -15,6 +15,9 @@ pub(crate) const BEFORE: u64 = 0xB4F0_2E5E_11E1_D0A7;
 /// Numbers on both sides of a lent array that must stay as before.
 const GUARD: usize = 2 * ROW;
 
+/// Numbers on both sides of a lent list that must stay as before.
+pub(crate) const LIST_GUARD: usize = 16;
+
 /// More than the rows of the longest datagram, 496 farewells.
 const ARENA: usize = 6000;
 
@@ -342,6 +345,20 @@ pub fn same<T: PartialEq + Debug>(name: Arguments, archive: &T, expected: &T) ->
     Err(format!(
         "{name}: archive {archive:?}, expected {expected:?}"
     ))
+}
+
+/// A lent list between numbers that are not lent, after a call.
+pub(crate) fn check_list(memory: &[u64], expected: &[u64]) -> Verdict {
+    let pairs = memory.iter().zip(expected);
+    for (at, (number, expected)) in pairs.enumerate() {
+        match at.checked_sub(LIST_GUARD) {
+            Some(index) if at < memory.len() - LIST_GUARD => {
+                same(format_args!("number {index} of the list"), number, expected)?;
+            }
+            _ => same(format_args!("beside the list"), number, expected)?,
+        }
+    }
+    Ok(())
 }
 
 /// The bytes in hex, with a space between words.

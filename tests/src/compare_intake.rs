@@ -5,22 +5,21 @@
 
 use crate::archive;
 use crate::arrivals::{Arrival, Course, Event};
-use crate::compare::{compare_values, same, Lent, Values, Verdict, BEFORE};
+use crate::compare::{check_list, compare_values, same, Lent, Values, Verdict};
+use crate::compare::{BEFORE, LIST_GUARD};
+use crate::compare_burst::{check_burst, check_single_calls, smallest_burst};
 use crate::compare_table::fewest;
 use crate::decoder::decode;
 use crate::first_packets::FirstPackets;
 use crate::generator::Rng;
 use crate::intake::{Answer, Fault, Intake, Met};
 use crate::items::{Item, Refusal};
-use crate::members::{Call, Reading};
+use crate::members::{Burst, Call, Reading};
 use crate::places::PLACES;
 use crate::register::step;
 use crate::table_values::{check_other_tallies, check_refused, with_tally};
 use prunepocket_sys::{Answered, DatagramAnswered, Place, Table};
 use std::slice::from_ref;
-
-/// Numbers on both sides of a lent list that must stay as before.
-const GUARD: usize = 16;
 
 /// Kinds of items that are calls, as columns of a count.
 pub const KINDS: [&str; 2] = ["report", "farewell"];
@@ -29,6 +28,8 @@ pub const KINDS: [&str; 2] = ["report", "farewell"];
 #[derive(Default)]
 pub struct Counts {
     pub courses: u64,
+    /// Bursts between the datagrams, taken and refused.
+    pub bursts: [u64; 2],
     /// Datagrams by their value of the flag and their answer, a refusal's number
     /// or 0.
     pub datagrams: [[u64; 11]; 2],
@@ -162,6 +163,7 @@ impl IntakeComparison {
         for (place, event) in course.events.iter().enumerate() {
             let verdict = match event {
                 Event::Call(call) => check_call(&mut sides, call),
+                Event::Burst(burst) => self.take_burst(&mut sides, burst),
                 Event::Arrival(arrival) => self.check_arrival(&mut sides, arrival),
                 Event::SetTally(source, tally) => {
                     sides.table = with_tally(&sides.table, *source, *tally);
@@ -172,6 +174,19 @@ impl IntakeComparison {
             verdict.map_err(|difference| format!("event {place}, {difference}"))?;
         }
         Ok(())
+    }
+
+    /// A burst between the datagrams.
+    fn take_burst(&mut self, sides: &mut Sides, burst: &Burst) -> Verdict {
+        let Burst {
+            reports, reading, ..
+        } = burst;
+        let Sides { table, intake } = sides;
+        let taken = check_burst(table, burst, |list| intake.burst(reports, reading, list))?;
+        check_single_calls(table, burst, &taken, |_, _, _, _| {})?;
+        sides.table = taken.table;
+        self.counts.bursts[usize::from(taken.number != 0)] += 1;
+        self.check_members(sides)
     }
 
     fn check_arrival(&mut self, sides: &mut Sides, arrival: &Arrival) -> Verdict {
@@ -192,8 +207,8 @@ impl IntakeComparison {
     /// After a refusal of the datagram the table has all fields as before.
     fn check_take(&mut self, sides: &mut Sides, arrival: &Arrival) -> Result<Answer, String> {
         let lent = Lent::new(&mut self.rng, &arrival.datagram);
-        let list = GUARD..GUARD + arrival.length;
-        let mut expected_memory = vec![BEFORE; GUARD + arrival.length + GUARD];
+        let list = LIST_GUARD..LIST_GUARD + arrival.length;
+        let mut expected_memory = vec![BEFORE; LIST_GUARD + arrival.length + LIST_GUARD];
         let expected = sides
             .intake
             .take(arrival, &mut expected_memory[list.clone()]);
@@ -209,7 +224,7 @@ impl IntakeComparison {
             arrival.reduced_size, arrival.length
         );
         same(call, &answer, &expected)?;
-        check_memory(memory, &expected_memory)?;
+        check_list(memory, &expected_memory)?;
         self.check_alike(&both)?;
         if answer.number != 0 && taken.table != sides.table {
             return Err(String::from("the table after a refusal is not as before"));
@@ -281,13 +296,13 @@ type Taken = (DatagramAnswered, Vec<u64>);
 
 /// An arrival with either value of the flag; the table stays as it is.
 fn take(table: &Table, lent: &Lent, reduced_size: bool, arrival: &Arrival) -> Taken {
-    let mut memory = vec![BEFORE; GUARD + arrival.length + GUARD];
+    let mut memory = vec![BEFORE; LIST_GUARD + arrival.length + LIST_GUARD];
     let taken = table.take_datagram(
         lent.datagram(),
         reduced_size,
         &arrival.origin,
         &arrival.reading,
-        &mut memory[GUARD..GUARD + arrival.length],
+        &mut memory[LIST_GUARD..LIST_GUARD + arrival.length],
     );
     (taken, memory)
 }
@@ -304,29 +319,27 @@ fn check_call(sides: &mut Sides, call: &Call) -> Verdict {
     Ok(())
 }
 
-/// The list and what stands around it, after a call.
-fn check_memory(memory: &[u64], expected: &[u64]) -> Verdict {
-    let pairs = memory.iter().zip(expected);
-    for (at, (number, expected)) in pairs.enumerate() {
-        match at.checked_sub(GUARD) {
-            Some(index) if at < memory.len() - GUARD => {
-                same(format_args!("number {index} of the list"), number, expected)?;
-            }
-            _ => same(format_args!("beside the list"), number, expected)?,
-        }
-    }
-    Ok(())
-}
-
-/// The course with every event left out that the difference does without.
+/// The course with every event left out that the difference does without, and what
+/// each burst does without.
 pub fn smallest(seed: u64, fault: Option<Fault>, course: &Course) -> Course {
     let with = |events: &[Event]| Course {
         opening: course.opening,
         events: events.to_vec(),
     };
-    let events = fewest(&course.events, |events| {
+    let differs = |events: &[Event]| {
         let mut comparison = IntakeComparison::new(seed, fault);
         comparison.check(&with(events)).is_err()
-    });
+    };
+    let mut events = fewest(&course.events, differs);
+    for index in 0..events.len() {
+        if let Event::Burst(burst) = &events[index] {
+            let smallest = smallest_burst(burst, |burst| {
+                let mut fewer = events.clone();
+                fewer[index] = Event::Burst(burst.clone());
+                differs(&fewer)
+            });
+            events[index] = Event::Burst(smallest);
+        }
+    }
     with(&events)
 }

@@ -3,22 +3,29 @@
 //! with their definition.
 
 use crate::archive;
+use crate::burst_counts::{self, Bursts};
 use crate::compare::{same, Verdict};
+use crate::compare_burst::{check_burst, check_single_calls, smallest_burst, Taken};
 use crate::generator::Rng;
 use crate::histories::{History, Step};
-use crate::members::{Call, Member, Opening, Reading, Record, ReportFields, Target};
+use crate::members::{Burst, Call, Member, Opening, Reading, Record, ReportFields, Target};
 use crate::places::{self, count_held_with, lowest_free_with, Held, Joins, PLACES};
 use crate::register::{self, step, Register};
 use crate::rejoins::{self, Leavings};
-use crate::table_values::{check_other_tallies, check_refused, is_held, with_tally, COPIES};
+use crate::table_values::{check_other_tallies, check_refused, is_held, raise, with_tally, COPIES};
 use crate::target::{AtReading, Seen};
 use crate::twins::Twins;
 use prunepocket_sys::{Answered, Place, Table};
 use std::array::from_fn;
 use std::cell::OnceCell;
 
-/// Kinds of calls, as columns of a count.
-pub const KINDS: [&str; 5] = ["open", "report", "farewell", "sweep", "choose"];
+/// Kinds of calls, as columns of a count. The last is of the reports in bursts.
+pub const KINDS: [&str; 7] = [
+    "open", "report", "farewell", "sweep", "choose", "burst", "in burst",
+];
+
+const BURST: usize = 5;
+const IN_BURST: usize = 6;
 
 /// What errs where a fault is planted.
 #[derive(Clone, Copy, Debug, PartialEq, Eq)]
@@ -33,12 +40,13 @@ pub enum Fault {
 pub struct Counts {
     pub histories: u64,
     /// By kind of call and by its answer, a refusal's number or 0.
-    pub answers: [[u64; 21]; KINDS.len()],
+    pub answers: [[u64; 25]; KINDS.len()],
     /// Comparisons of all members, how many had 64, and members in all.
     pub member_lists: u64,
     pub full_lists: u64,
     pub members: u64,
     pub joins: Joins,
+    pub bursts: Bursts,
     pub twins: Twins,
     pub step_zero: StepZero,
     pub targets: Targets,
@@ -77,13 +85,30 @@ pub struct Targets {
 }
 
 impl Counts {
-    /// Reports, farewells and sweeps.
+    /// Single reports, farewells and sweeps.
     pub fn calls(&self) -> u64 {
         self.answers[1..4].iter().flatten().sum()
     }
 
+    /// Those in bursts included.
     pub fn reports(&self) -> u64 {
-        self.answers[1].iter().sum()
+        let single = self.answers[1].iter();
+        single.chain(&self.answers[IN_BURST]).sum()
+    }
+
+    fn count_burst(&mut self, before: &Table, burst: &Burst, taken: &Taken) {
+        self.answers[BURST][taken.number as usize] += 1;
+        for (told, &number) in burst.reports.iter().zip(&taken.numbers) {
+            self.answers[IN_BURST][number as usize] += 1;
+            self.step_zero.count(&told.report, number);
+        }
+        self.bursts.count(&burst_counts::Seen {
+            burst,
+            number: taken.number,
+            numbers: &taken.numbers,
+            before,
+            after: &taken.table,
+        });
     }
 
     /// How often an answer was met with all kinds of calls.
@@ -121,6 +146,14 @@ impl Shown {
     fn records(&self) -> Vec<Record> {
         let members = self.members().into_iter();
         members.map(|member| member.record).collect()
+    }
+
+    /// What is shown at each place.
+    fn check_same(&self, expected: &[Place; PLACES]) -> Verdict {
+        for (place, (shown, expected)) in self.places().iter().zip(expected).enumerate() {
+            same(format_args!("place {place}"), shown, expected)?;
+        }
+        Ok(())
     }
 
     /// The word marks the places with a member; any other shows zeros.
@@ -221,6 +254,7 @@ impl TableComparison {
     fn check_step(&mut self, sides: &mut Sides, step: &Step) -> Verdict {
         match step {
             Step::Call(call) => self.check_call(sides, call),
+            Step::Burst(burst) => self.check_burst(sides, burst),
             Step::Choose(reading) => self.check_choice(sides, reading),
             Step::Members => self.check_members(sides),
             Step::SetTally(source, tally) => {
@@ -258,9 +292,51 @@ impl TableComparison {
         Ok(())
     }
 
-    /// A report of a new source that meets none of 13 to 17 gets 18 exactly where
-    /// no place is shown free. Else it stands at the lowest free one, and all others
-    /// are as before.
+    /// The burst is answered as by the register, and as the archive's single calls
+    /// are. Members, places and the choice are compared after each.
+    fn check_burst(&mut self, sides: &mut Sides, burst: &Burst) -> Verdict {
+        let (reports, reading) = (&burst.reports, &burst.reading);
+        let (before, register) = (sides.shown.table, &mut sides.register);
+        let taken = check_burst(&before, burst, |list| {
+            register.burst(reports, reading, list)
+        })?;
+        self.counts.count_burst(&before, burst, &taken);
+        let counts = &mut self.counts;
+        check_single_calls(&before, burst, &taken, |before, call, number, after| {
+            counts.twins.count(before, call, number, after);
+        })?;
+        let places = self.places_after(sides, reports, &taken.numbers)?;
+        sides.shown = Shown::new(taken.table);
+        sides.shown.check_same(&places)?;
+        self.check_members(sides)?;
+        self.check_choice(sides, reading)
+    }
+
+    /// What stands at each place after reports with these numbers: a member's own at
+    /// its place, a new one at the lowest free one, and a tally more for each 14.
+    fn places_after(
+        &mut self,
+        sides: &mut Sides,
+        reports: &[Record],
+        numbers: &[u64],
+    ) -> Result<[Place; PLACES], String> {
+        let mut places = *sides.shown.places();
+        for (told, &number) in reports.iter().zip(numbers) {
+            let holds =
+                |place: &Place| place.held == 1 && place.member.record.source == told.source;
+            let holder = places.iter_mut().find(|place| holds(place));
+            match (number, holder) {
+                (0, Some(place)) => place.member.record = *told,
+                (14, Some(place)) => raise(&mut place.member.tally),
+                (0 | 18, None) => self.join(sides, &mut places, number, told)?,
+                (13 | 15..=17, _) => {}
+                (_, holder) => return Err(format!("{number} beside {holder:?}")),
+            }
+        }
+        Ok(places)
+    }
+
+    /// A single report of a new source. All other places are as before.
     fn check_join(
         &mut self,
         sides: &mut Sides,
@@ -268,11 +344,24 @@ impl TableComparison {
         after: &Shown,
         told: &Record,
     ) -> Verdict {
-        let held = sides.shown.held();
+        let mut places = *sides.shown.places();
+        self.join(sides, &mut places, number, told)?;
+        after.check_same(&places)
+    }
+
+    /// A report of a new source that meets none of 13 to 17 gets 18 exactly where
+    /// no place is free. Else it stands at the lowest free one.
+    fn join(
+        &mut self,
+        sides: &mut Sides,
+        places: &mut [Place; PLACES],
+        number: u64,
+        told: &Record,
+    ) -> Verdict {
+        let held = places.map(|place| place.held == 1);
         let free = lowest_free_with(&held, self.places_fault());
         let expected = if free.is_some() { 0 } else { 18 };
         same(format_args!("a new member"), &number, &expected)?;
-        let mut places = *sides.shown.places();
         if let Some(place) = free {
             let leavings = &sides.leavings;
             let member = Member {
@@ -283,9 +372,6 @@ impl TableComparison {
             self.counts.joins.count(&held, &mut sides.used, place);
             let rejoins = &mut self.counts.twins.rejoins;
             rejoins.count(leavings, told.source, place);
-        }
-        for (place, (shown, expected)) in after.places().iter().zip(&places).enumerate() {
-            same(format_args!("place {place}"), shown, expected)?;
         }
         Ok(())
     }
@@ -403,16 +489,28 @@ fn samples(rng: &mut Rng) -> [i128; 7] {
     [0, 1, -1, any(), any(), -any().abs(), any().abs()]
 }
 
-/// The history with every step left out that the difference does without.
+/// The history with every step left out that the difference does without, and what
+/// each burst does without.
 pub fn smallest(seed: u64, fault: Option<Fault>, history: &History) -> History {
     let with = |steps: &[Step]| History {
         opening: history.opening,
         steps: steps.to_vec(),
     };
-    let steps = fewest(&history.steps, |steps| {
+    let differs = |steps: &[Step]| {
         let mut comparison = TableComparison::new(seed, fault);
         comparison.check(&with(steps)).is_err()
-    });
+    };
+    let mut steps = fewest(&history.steps, differs);
+    for index in 0..steps.len() {
+        if let Step::Burst(burst) = &steps[index] {
+            let smallest = smallest_burst(burst, |burst| {
+                let mut fewer = steps.clone();
+                fewer[index] = Step::Burst(burst.clone());
+                differs(&fewer)
+            });
+            steps[index] = Step::Burst(smallest);
+        }
+    }
     with(&steps)
 }
 

@@ -2,8 +2,10 @@
 //! twins, readings that jump, wrap and repeat, and times at and next to every
 //! limit.
 
+use crate::burst::MOST_REPORTS;
+use crate::bursts::{burst, burst_in_turn};
 use crate::generator::Rng;
-use crate::members::{Call, Opening, Origin, Reading, Record, ReportFields};
+use crate::members::{Burst, Call, Opening, Origin, Reading, Record, ReportFields};
 
 const SECOND: u64 = 1 << 32;
 
@@ -28,9 +30,10 @@ const RATES: [u32; 6] = [1, 8_000, 44_100, 90_000, 90_000, 192_000];
 /// How many reports are remembered, to be repeated and read near their limits.
 const REMEMBERED: usize = 24;
 
-#[derive(Clone, Copy, Debug, PartialEq, Eq)]
+#[derive(Clone, Debug, PartialEq, Eq)]
 pub enum Step {
     Call(Call),
+    Burst(Burst),
     Choose(Reading),
     /// All members are compared.
     Members,
@@ -105,6 +108,7 @@ struct Temper {
     farewells: usize,
     sweeps: usize,
     jumps: usize,
+    bursts: usize,
 }
 
 impl Temper {
@@ -133,6 +137,7 @@ impl Temper {
             farewells: rng.pick(&[1, 4]),
             sweeps: 1,
             jumps: 0,
+            bursts: 2,
         }
     }
 
@@ -143,6 +148,7 @@ impl Temper {
             sources: rng.between(80, 120),
             filled: rng.between(62, 68),
             farewells: rng.pick(&[4, 10]),
+            bursts: 30,
             ..Temper::crowded(rng)
         }
     }
@@ -159,6 +165,7 @@ impl Temper {
             farewells: rng.pick(&[5, 20, 40]),
             sweeps: rng.pick(&[1, 4]),
             jumps: rng.pick(&[0, 1, 4]),
+            bursts: 2,
             ..Temper::mixed(rng)
         }
     }
@@ -179,6 +186,7 @@ impl Temper {
             farewells: rng.pick(&[3, 10, 20]),
             sweeps: rng.pick(&[1, 4, 10]),
             jumps: rng.pick(&[0, 2, 10]),
+            bursts: rng.pick(&[2, 6]),
         }
     }
 }
@@ -205,18 +213,32 @@ impl World {
         }
     }
 
-    /// A report of each of the first sources, in turn.
+    /// A report of each of the first sources, in turn; at times as many of them as
+    /// can be come in a burst. Any history may start with a burst.
     fn fill(&mut self, rng: &mut Rng) -> Vec<Step> {
-        let first = 0..self.temper.filled;
+        let filled = self.temper.filled;
+        let mut steps = Vec::new();
+        let mut done = 0;
+        if filled > 0 && rng.chance(30) {
+            done = filled.min(MOST_REPORTS);
+            steps.push(Step::Burst(burst_in_turn(rng, self, done)));
+        } else if rng.chance(8) {
+            steps.push(Step::Burst(burst(rng, self)));
+        }
         let fill = |index: usize| {
             self.advance(rng);
-            let (source, origin) = (self.sources[index], self.own_origin(index));
+            let (source, origin) = self.own_sender(index);
             Step::Call(self.report_of(rng, source, origin))
         };
-        first.map(fill).collect()
+        steps.extend((done..filled).map(fill));
+        steps
     }
 
     fn step(&mut self, rng: &mut Rng) -> Step {
+        if rng.chance(self.temper.bursts) {
+            self.advance(rng);
+            return Step::Burst(burst(rng, self));
+        }
         match rng.below(100) {
             0..=17 => Step::Choose(self.some_reading(rng)),
             18..=21 => Step::Members,
@@ -250,6 +272,18 @@ impl World {
 
     fn own_origin(&self, index: usize) -> Origin {
         self.origins[index % self.origins.len()]
+    }
+
+    /// One of the sources with its own origin; behind the last, they start again.
+    pub(crate) fn own_sender(&self, index: usize) -> (u32, Origin) {
+        let index = index % self.sources.len();
+        (self.sources[index], self.own_origin(index))
+    }
+
+    /// One of the sources with another origin.
+    pub(crate) fn twin(&self, rng: &mut Rng, index: usize) -> (u32, Origin) {
+        let index = index % self.sources.len();
+        (self.sources[index], self.twin_origin(rng, index))
     }
 
     /// A source with its own origin, or at times with another.

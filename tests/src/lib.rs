@@ -5,10 +5,13 @@
 pub mod archive;
 pub mod arrivals;
 pub mod burst;
+pub mod burst_counts;
 pub mod burst_steps;
+pub mod bursts;
 pub mod call_history;
 pub mod cases;
 pub mod compare;
+pub mod compare_burst;
 pub mod compare_intake;
 pub mod compare_site_lines;
 pub mod compare_table;

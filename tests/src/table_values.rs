@@ -34,14 +34,19 @@ pub fn with_tally(table: &Table, source: u32, tally: u32) -> Table {
     written
 }
 
+/// One more, or the limit.
+pub fn raise(tally: &mut u32) {
+    *tally += u32::from(*tally < TALLY_LIMIT);
+}
+
 /// After a refusal all fields are as before, but for the holder's tally after 14:
 /// that is one more, or stays at the limit.
 pub fn check_refused(before: &Table, call: &Call, number: u64, after: &Table) -> Verdict {
     let mut expected = *before;
     if number == 14 {
         let place = call.source().and_then(|source| holder(before, source));
-        let tally = &mut expected.members[place.ok_or("14, and nobody holds the number")?].tally;
-        *tally += u32::from(*tally < TALLY_LIMIT);
+        let place = place.ok_or("14, and nobody holds the number")?;
+        raise(&mut expected.members[place].tally);
     }
     for (place, (member, expected)) in after.members.iter().zip(&expected.members).enumerate() {
         same(

@@ -1,6 +1,7 @@
 //! Plants each fault in the decoder, in the encoder, in the reader and writer of
-//! site files' lines, in the register, in the tallies, in those of new members, in the
-//! rule of places and in the intake, and asserts that the comparison finds it.
+//! site files' lines, in the register, in bursts, in the tallies, in those of new
+//! members, in the rule of places and in the intake, and asserts that the comparison
+//! finds it.
 
 use prunepocket_tests::arrivals::Course;
 use prunepocket_tests::call_history::TALLY_LIMIT;
@@ -13,7 +14,8 @@ use prunepocket_tests::encoder::Message;
 use prunepocket_tests::generator::{self, Rng};
 use prunepocket_tests::histories::History;
 use prunepocket_tests::{arrivals, histories, limit_histories, site_lines, sync_group};
-use prunepocket_tests::{call_history, decoder, encoder, intake, places, register, rejoins};
+use prunepocket_tests::{burst, call_history, decoder, encoder, intake};
+use prunepocket_tests::{places, register, rejoins};
 use std::borrow::Borrow;
 use std::fmt::Debug;
 use std::iter::once;
@@ -50,6 +52,7 @@ fn main() {
         let planted = compare_table::Fault::Register(fault);
         missed |= !print_found(fault, "history", in_histories(seed, planted));
     }
+    missed |= !bursts_find_all(seed);
     missed |= !tallies_find_all(seed);
     missed |= !rejoins_find_all(seed);
     missed |= !places_find_all(seed);
@@ -78,6 +81,19 @@ fn lines_find_all(seed: u64) -> bool {
         found &= print_found(fault, "edge", in_lines(seed, fault, writings.iter(), check));
         let more = generated(seed, site_lines::writing);
         found &= print_found(fault, "writing", in_lines(seed, fault, more, check));
+    }
+    found
+}
+
+/// Each fault of bursts is found in histories, and again in courses.
+fn bursts_find_all(seed: u64) -> bool {
+    let mut found = true;
+    for fault in burst::Fault::ALL {
+        let of_register = register::Fault::Burst(fault);
+        let planted = compare_table::Fault::Register(of_register);
+        found &= print_found(fault, "history", in_histories(seed, planted));
+        let planted = intake::Fault::Register(of_register);
+        found &= print_found(fault, "course", in_courses(seed, planted));
     }
     found
 }

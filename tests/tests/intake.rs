@@ -66,7 +66,7 @@ fn report_mismatch(seed: u64, run: u64, course: &Course, difference: &str) {
                 println!("reduced size {}", arrival.reduced_size);
                 println!("datagram {}", hex(&arrival.datagram));
             }
-            Event::SetTally(..) => println!("{event:?}"),
+            Event::Burst(_) | Event::SetTally(..) => println!("{event:?}"),
         }
     }
 }
@@ -99,6 +99,8 @@ fn others(counts: &Counts) -> Vec<Line> {
         ("reports of step 0", counts.step_zero),
         ("step 0 accepted", counts.step_zero_accepted),
         ("step 0 refused 17", counts.step_zero_refused),
+        ("bursts between, taken", counts.bursts[0]),
+        ("bursts between, refused", counts.bursts[1]),
         ("alike with both values", counts.alike),
         ("refused 4 with one value", counts.beside_four),
         ("settings passed by", counts.settings),

@@ -12,7 +12,7 @@ use std::process::exit;
 use std::time::Instant;
 
 /// The answers that a table can give: 0 is no refusal.
-const NUMBERS: [usize; 10] = [0, 12, 13, 14, 15, 16, 17, 18, 19, 20];
+const NUMBERS: [usize; 12] = [0, 12, 13, 14, 15, 16, 17, 18, 19, 20, 23, 24];
 
 /// Among so many calls, each line has to be met at least once.
 const SHARE: u64 = 2_000;
@@ -76,6 +76,7 @@ fn others(counts: &Counts) -> Vec<Line> {
         ("targets a unit beside step 0", targets.unit_apart),
     ]);
     others.extend(counts.joins.lines());
+    others.extend(counts.bursts.lines());
     others.extend(counts.twins.lines());
     others.extend(of_step_zero(&counts.step_zero));
     others
