@@ -40,15 +40,21 @@ pub struct Course {
     pub events: Vec<Event>,
 }
 
+impl Event {
+    /// That of a step which can change the members.
+    pub(crate) fn of(step: Step) -> Option<Event> {
+        match step {
+            Step::Call(call) => Some(Event::Call(call)),
+            Step::Burst(burst) => Some(Event::Burst(burst)),
+            Step::Choose(_) | Step::Members | Step::SetTally(..) => None,
+        }
+    }
+}
+
 /// The next course of a run.
 pub fn course(rng: &mut Rng) -> Course {
     let (history, mut world) = history_with_world(rng);
-    let calls = history.steps.into_iter().filter_map(|step| match step {
-        Step::Call(call) => Some(Event::Call(call)),
-        Step::Burst(burst) => Some(Event::Burst(burst)),
-        Step::Choose(_) | Step::Members | Step::SetTally(..) => None,
-    });
-    let mut events: Vec<Event> = calls.collect();
+    let mut events: Vec<Event> = history.steps.into_iter().filter_map(Event::of).collect();
     for _ in 0..rng.between(1, MOST_EVENTS) {
         events.push(match rng.below(100) {
             0..=4 => Event::Call(world.call(rng)),

@@ -5,7 +5,7 @@ use crate::arrivals::{Arrival, Course, Event};
 use crate::call_history::TALLY_LIMIT;
 use crate::encoder::Message;
 use crate::histories::{History, Step};
-use crate::members::{Call, Record};
+use crate::members::{Burst, Call, Record};
 use crate::plain_reports::{origin, reading, record, OPENING};
 
 /// The tallies that are written: also before a carry into another byte or the sign.
@@ -41,6 +41,13 @@ const STALE: u32 = 40;
 /// How many calls follow on each other.
 const CALLS: u32 = 3;
 
+/// A list with a number more than the burst has reports, and one with too few.
+const LONG_LIST: usize = 6;
+const SHORT_LIST: usize = 4;
+
+/// What the list of a burst holds beforehand.
+const BEFORE: u64 = 4_294_967_296;
+
 /// The calls under the number in question, and beside it.
 #[derive(Clone, Copy, Debug)]
 enum CallKind {
@@ -58,9 +65,11 @@ enum CallKind {
     Sweep,
     SweepAllButFirst,
     SweepAllOut,
+    /// Reports of both units and others in one, with a list of this length.
+    Burst(usize),
 }
 
-const ALL: [CallKind; 14] = [
+const ALL: [CallKind; 16] = [
     CallKind::Report(OWN),
     CallKind::Report(TWIN),
     CallKind::Farewell(OWN),
@@ -75,6 +84,8 @@ const ALL: [CallKind; 14] = [
     CallKind::Sweep,
     CallKind::SweepAllButFirst,
     CallKind::SweepAllOut,
+    CallKind::Burst(LONG_LIST),
+    CallKind::Burst(SHORT_LIST),
 ];
 
 /// The calls that lead to the table: the member in question is in the middle.
@@ -91,8 +102,8 @@ fn written(tally: u32) -> [(u32, u32); 3] {
 }
 
 impl CallKind {
-    /// The call at the clock, which two of the sweeps move.
-    fn call(self, clock: &mut u32) -> Call {
+    /// At the clock, which two of the sweeps move.
+    fn step(self, clock: &mut u32) -> Step {
         *clock += match self {
             CallKind::SweepAllButFirst => FIRST_FRESH,
             CallKind::SweepAllOut => STALE,
@@ -109,14 +120,32 @@ impl CallKind {
             CallKind::Old => told.report.received = reading(*clock - STALE).ntp,
             CallKind::OldMedia => told.report.rtp = now.rtp + 1,
             CallKind::Late => told.report.presented += STALE << 16,
-            CallKind::Farewell(port) => return Call::Farewell(NUMBER, origin(port)),
-            CallKind::TwinOfAnother => return Call::Farewell(OTHERS[1].0, origin(TWIN)),
-            CallKind::FirstLeaves => return Call::Farewell(OTHERS[0].0, origin(OWN)),
+            CallKind::Farewell(port) => return farewell(NUMBER, port),
+            CallKind::TwinOfAnother => return farewell(OTHERS[1].0, TWIN),
+            CallKind::FirstLeaves => return farewell(OTHERS[0].0, OWN),
             CallKind::Sweep | CallKind::SweepAllButFirst | CallKind::SweepAllOut => {
-                return Call::Sweep(now)
+                return Step::Call(Call::Sweep(now))
             }
+            CallKind::Burst(length) => return Step::Burst(burst(length, *clock)),
         }
-        Call::Report(told, now)
+        Step::Call(Call::Report(told, now))
+    }
+}
+
+fn farewell(source: u32, port: u16) -> Step {
+    Step::Call(Call::Farewell(source, origin(port)))
+}
+
+/// Two reports of the twin with one of the holder between them, one of the first
+/// member's twin, and one of the holder that gets 15.
+fn burst(length: usize, clock: u32) -> Burst {
+    let told = |source: u32, port: u16| record(source, port, clock - 1);
+    let [twin, own, mut old] = [TWIN, OWN, OWN].map(|port| told(NUMBER, port));
+    old.report.received = reading(clock - STALE).ntp;
+    Burst {
+        reports: vec![twin, own, twin, told(OTHERS[0].0, TWIN), old],
+        reading: reading(clock),
+        list: vec![BEFORE; length],
     }
 }
 
@@ -133,7 +162,7 @@ fn history(tally: u32, kinds: impl Iterator<Item = CallKind>) -> History {
     let mut clock = START;
     let mut steps: Vec<Step> = joinings().map(Step::Call).into();
     steps.extend(written(tally).map(|(source, tally)| Step::SetTally(source, tally)));
-    steps.extend(kinds.flat_map(|kind| [Step::Call(kind.call(&mut clock)), Step::Members]));
+    steps.extend(kinds.flat_map(|kind| [kind.step(&mut clock), Step::Members]));
     steps.push(Step::Choose(reading(clock)));
     History {
         opening: OPENING,
@@ -146,8 +175,8 @@ type Part = (CallKind, &'static [(u32, u16, &'static str)]);
 
 /// The member in question leaves and comes back: by farewell to the same place, by
 /// sweep to the same and to another, and by farewell to another, since the first
-/// member has come back before it.
-const PARTS: [Part; 4] = [
+/// member has come back before it. The bursts raise the tallies of both.
+const PARTS: [Part; 6] = [
     (
         CallKind::Sweep,
         &[
@@ -161,6 +190,8 @@ const PARTS: [Part; 4] = [
             (NUMBER, OWN, "RFR"),
         ],
     ),
+    (CallKind::Burst(SHORT_LIST), &[]),
+    (CallKind::Burst(LONG_LIST), &[]),
     (
         CallKind::SweepAllButFirst,
         &[(NUMBER, OWN, "R"), (NUMBER, TWIN, "FR")],
@@ -175,14 +206,14 @@ const PARTS: [Part; 4] = [
     ),
 ];
 
-/// Datagrams from the twin and from the holder, with sweeps between them, from a
-/// tally on.
+/// Datagrams from the twin and from the holder, with bursts and sweeps between
+/// them, from a tally on.
 pub fn course(tally: u32) -> Course {
     let mut clock = START;
     let mut events: Vec<Event> = joinings().map(Event::Call).into();
     events.extend(written(tally).map(|(source, tally)| Event::SetTally(source, tally)));
     for (kind, datagrams) in PARTS {
-        events.push(Event::Call(kind.call(&mut clock)));
+        events.extend(Event::of(kind.step(&mut clock)));
         let arrivals = datagrams.iter().map(|(source, port, items)| {
             Event::Arrival(arrival(&record(*source, *port, clock - 1), items, clock))
         });

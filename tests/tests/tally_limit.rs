@@ -38,6 +38,7 @@ fn calls_around_the_limit_are_answered_alike() {
     let twins = &comparison.counts.twins;
     ask(twins.lines(), LEAST);
     ask(twins.around_limit.lines(), LEAST);
+    ask(comparison.counts.bursts.around_limit(), LEAST);
 }
 
 #[test]
@@ -55,5 +56,6 @@ fn datagrams_around_the_limit_are_taken_alike() {
     ask(counts.met.rejoins.lines(), 1);
     assert_eq!(counts.datagrams[0][1..], [0; 10]);
     assert!(counts.raising_again > 0);
+    assert!(counts.bursts.iter().all(|&times| times > 0));
     assert!(counts.calls.iter().all(|numbers| numbers[14] > 0));
 }
