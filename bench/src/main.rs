@@ -2,6 +2,7 @@
 //! have to agree on the inputs before anything is timed.
 
 mod archive;
+mod bursts;
 mod inputs;
 mod messages;
 mod peer;
@@ -67,6 +68,7 @@ fn main() {
     print_writes("report", REPORT_WRITERS, &messages::reports());
     print_writes("settings", SETTINGS_WRITERS, &messages::settings());
     tables::print();
+    bursts::print();
 }
 
 /// Panics where the archive and the peer differ on an input, or on copies of

@@ -8,12 +8,12 @@ use std::hint::black_box;
 
 const SECOND: u64 = 1 << 32;
 
-const READING: Reading = Reading {
+pub const READING: Reading = Reading {
     ntp: 1000 * SECOND,
     rtp: 9_000_000,
 };
 
-fn record(source: u32) -> peer::Record {
+pub fn record(source: u32) -> peer::Record {
     let mut address = [0, 0, 0, 0, 0, 0, 0, 0, 0, 0, 255, 255, 192, 0, 2, 0];
     address[15] = source as u8;
     peer::Record {
@@ -43,20 +43,20 @@ fn wired_record(source: u32) -> peer::Record {
 }
 
 /// The same from another origin: a twin of the source.
-fn twin_record(source: u32) -> peer::Record {
+pub fn twin_record(source: u32) -> peer::Record {
     let mut record = record(source);
     record.origin.port += 1;
     record
 }
 
 /// Both tables with members 1 to `members`.
-struct Pair {
-    ours: Table,
-    peers: peer::Table,
+pub struct Pair {
+    pub ours: Table,
+    pub peers: peer::Table,
 }
 
 impl Pair {
-    fn with(members: u32) -> Pair {
+    pub fn with(members: u32) -> Pair {
         let mut pair = Pair {
             ours: Table::open(42, 7, 90_000).expect("it opens"),
             peers: peer::Table::open(42, 7, 90_000).expect("it opens"),
@@ -68,7 +68,7 @@ impl Pair {
     }
 
     /// Panics where the two differ.
-    fn report(&mut self, record: &peer::Record, reading: &Reading) -> u64 {
+    pub fn report(&mut self, record: &peer::Record, reading: &Reading) -> u64 {
         let answered = self.ours.report(&record.into(), reading);
         let answer = self.peers.report(record, reading);
         assert_eq!(answered.number, answer.err().unwrap_or(0));
