@@ -4,7 +4,7 @@
 use crate::peer_table as peer;
 use crate::tables::{record, twin_record, Pair, READING};
 use crate::{passes_in_a_round, round, ROUNDS};
-use prunepocket_sys::Record;
+use prunepocket_sys::{Record, Table};
 use std::hint::black_box;
 
 /// The most reports of a burst.
@@ -57,19 +57,27 @@ impl Input {
             },
             || {
                 again.reset(&mut single, &start);
-                for told in black_box(&told) {
-                    let answer = single.report(told, &READING);
-                    single = answer.table;
-                    black_box(answer.number);
-                }
+                report_each(&mut single, black_box(&told));
             },
             || {
                 again.reset(&mut peers, &peer_start);
-                for sent in black_box(&sent) {
-                    let _ = black_box(black_box(&mut peers).report(sent, black_box(&READING)));
-                }
+                report_each_to_peer(&mut peers, black_box(&sent));
             },
         )
+    }
+}
+
+fn report_each(table: &mut Table, told: &[Record]) {
+    for told in told {
+        let answer = table.report(told, &READING);
+        *table = answer.table;
+        black_box(answer.number);
+    }
+}
+
+fn report_each_to_peer(table: &mut peer::Table, sent: &[peer::Record]) {
+    for sent in sent {
+        let _ = black_box(black_box(&mut *table).report(sent, black_box(&READING)));
     }
 }
 

@@ -131,12 +131,8 @@ impl Default for Bursts {
 
 impl Bursts {
     pub fn count(&mut self, seen: &Seen) {
-        for (times, (_, is_met)) in self.kinds.iter_mut().zip(KINDS) {
-            *times += u64::from(is_met(seen));
-        }
-        for (times, (_, is_met)) in self.around_limit.iter_mut().zip(AROUND_LIMIT) {
-            *times += u64::from(is_met(seen));
-        }
+        count_kinds(&mut self.kinds, &KINDS, seen);
+        count_kinds(&mut self.around_limit, &AROUND_LIMIT, seen);
         self.spare += seen.spare().unwrap_or(0) as u64;
     }
 
@@ -149,6 +145,12 @@ impl Bursts {
 
     pub fn around_limit(&self) -> Vec<Line> {
         named(&AROUND_LIMIT, &self.around_limit)
+    }
+}
+
+fn count_kinds(times: &mut [u64], kinds: &[Kind], seen: &Seen) {
+    for (times, (_, is_met)) in times.iter_mut().zip(kinds) {
+        *times += u64::from(is_met(seen));
     }
 }
 

@@ -5,6 +5,7 @@ use crate::archive;
 use crate::compare::{check_list, same, Verdict, LIST_GUARD};
 use crate::compare_table::fewest;
 use crate::members::{Burst, Call, Record};
+use crate::table_values::check_same_table;
 use prunepocket_sys::Table;
 
 /// What the archive answers to a burst.
@@ -33,8 +34,9 @@ pub fn check_burst(
     let call = format_args!("a burst of {reports} with a list of {length}");
     same(call, &answered.number, &expected)?;
     check_list(&memory, &expected_memory)?;
-    if answered.number != 0 && answered.table != *table {
-        return Err(String::from("the table after a burst's refusal"));
+    if answered.number != 0 {
+        let name = format_args!("after a refused burst");
+        check_same_table(name, &answered.table, table)?;
     }
     let taken = if answered.number == 0 { reports } else { 0 };
     Ok(Taken {
@@ -60,20 +62,16 @@ pub fn check_single_calls(
         show(&table, &call, *number, &single.table);
         table = single.table;
     }
-    match table == taken.table {
-        true => Ok(()),
-        false => Err(String::from(
-            "the table after a burst and after single calls",
-        )),
-    }
+    let name = format_args!("after a burst, beside single calls");
+    check_same_table(name, &taken.table, &table)
 }
 
 /// A report, a number of the list, or one of each.
 type Entry = (Option<Record>, Option<u64>);
 
 /// The burst with every report and every number of the list left out that the
-/// difference does without. Reports and their numbers go together, so that a list
-/// stays as much longer or shorter as it is.
+/// difference does without. Reports go together with their numbers at first, so that
+/// a list stays as much longer or shorter as it is.
 pub fn smallest_burst(burst: &Burst, differs: impl Fn(&Burst) -> bool) -> Burst {
     let with = |entries: &[Entry]| Burst {
         reports: entries.iter().filter_map(|entry| entry.0).collect(),
@@ -86,7 +84,12 @@ pub fn smallest_burst(burst: &Burst, differs: impl Fn(&Burst) -> bool) -> Burst 
     };
     let longest = burst.reports.len().max(burst.list.len());
     let entries: Vec<Entry> = (0..longest).map(entry).collect();
-    with(&fewest(&entries, |entries| differs(&with(entries))))
+    let paired = with(&fewest(&entries, |entries| differs(&with(entries))));
+    let with_list = |list: &[u64]| Burst {
+        list: list.to_vec(),
+        ..paired.clone()
+    };
+    with_list(&fewest(&paired.list, |list| differs(&with_list(list))))
 }
 
 #[cfg(test)]
@@ -113,8 +116,8 @@ mod tests {
         assert_eq!(smallest(&burst(9, 9), |n, list| n > 0 && n == list), (1, 1));
         assert_eq!(smallest(&burst(9, 40), |n, list| n < list), (0, 1));
         assert_eq!(smallest(&burst(70, 12), |n, list| n > list), (1, 0));
-        assert_eq!(smallest(&burst(70, 12), |n, _| n > 64), (65, 7));
+        assert_eq!(smallest(&burst(70, 12), |n, _| n > 64), (65, 0));
         let has_three = |burst: &Burst| burst.reports.iter().any(|told| told.source == 3);
-        assert_eq!(lengths(smallest_burst(&burst(9, 12), has_three)), (1, 1));
+        assert_eq!(lengths(smallest_burst(&burst(9, 12), has_three)), (1, 0));
     }
 }

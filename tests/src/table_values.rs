@@ -7,6 +7,7 @@ use crate::generator::Rng;
 use crate::members::{Call, Choice, Reading};
 use crate::places::PLACES;
 use prunepocket_sys::{Followed, Table};
+use std::fmt::Arguments;
 
 /// How many copies with other tallies a choice is compared on.
 pub const COPIES: u64 = 3;
@@ -48,16 +49,19 @@ pub fn check_refused(before: &Table, call: &Call, number: u64, after: &Table) ->
         let place = place.ok_or("14, and nobody holds the number")?;
         raise(&mut expected.members[place].tally);
     }
-    for (place, (member, expected)) in after.members.iter().zip(&expected.members).enumerate() {
-        same(
-            format_args!("place {place} after {number}"),
-            member,
-            expected,
-        )?;
+    check_same_table(format_args!("after {number}"), after, &expected)
+}
+
+/// All fields are the same. Each place is compared first, so that a difference is
+/// short.
+pub fn check_same_table(name: Arguments, table: &Table, expected: &Table) -> Verdict {
+    let pairs = table.members.iter().zip(&expected.members);
+    for (place, (member, expected)) in pairs.enumerate() {
+        same(format_args!("place {place} {name}"), member, expected)?;
     }
-    match *after == expected {
+    match table == expected {
         true => Ok(()),
-        false => Err(format!("the table after {number} is not as before")),
+        false => Err(format!("the table {name} is not as expected")),
     }
 }
 
