@@ -125,8 +125,8 @@ fn numbers(rng: &mut Rng, length: usize) -> Vec<u64> {
     (0..length).map(|_| rng.number()).collect()
 }
 
-/// Some of the reports are refused, whatever the history is like: a few of 13 and
-/// 15 to 17, or of a twin.
+/// Makes some of the reports such as get 13 or 15 to 17, or come from a twin, whatever
+/// the history is like.
 fn spoil(rng: &mut Rng, world: &World, reports: &mut [Record]) {
     for _ in 0..rng.between(1, 4) {
         let index = rng.below(reports.len());
