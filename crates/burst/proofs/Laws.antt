@@ -9,6 +9,7 @@ use lib.ListN.{length, set, drop, length-set}
 use native.Mathlib.Nat.{le-refl, not-suc-le-zero, le-of-suc-le-suc}
 use native.Mathlib.Omega.{arith}
 use borrow.Author.Tests.{eqb-true, ltb-false}
+use Rattle.refusals.specs.Refusals.{longBurst, shortAnswers}
 use Rattle.register.specs.declared.Record.{Record}
 use Rattle.register.specs.declared.Reading.{Reading}
 use Rattle.register.specs.Register.{Call}
@@ -17,7 +18,7 @@ use Rattle.table.specs.declared.Answered.{Answered}
 use Rattle.table.specs.Calls.{answered}
 use Rattle.table.specs.History.{answersFrom, tableFrom}
 use Rattle.table.specs.Numbers.{numbersInto}
-use Rattle.burst.specs.Burst.{reportCalls, burstChecks, burstChecked, burstAnswered, burstAnswersAfter}
+use Rattle.burst.specs.Burst.{reportCalls, burstLimit, burstChecks, burstChecked, burstAnswered, burstAnswersAfter}
 use Rattle.burst.specs.Singles.{recordAt, afterSingles, singleNumber}
 
 pub length-calls : (at : Reading) (reports : List Record) → length (reportCalls at reports) ≡ length reports
@@ -102,11 +103,11 @@ module _ (at : Reading) where
 -- a list is long enough where the burst is taken
 list-enough : (reports many : ℕ) → burstChecks reports many ≡ 0 → reports ≤ many
 unfolding burstChecks
-list-enough reports many e = go (ltb 64 reports) refl (ltb many reports) refl
+list-enough reports many e = go (ltb burstLimit reports) refl (ltb many reports) refl
   where
-    go : (p : Bool) → ltb 64 reports ≡ p → (q : Bool) → ltb many reports ≡ q → reports ≤ many
-    go true h q k = let wrong : burstChecks reports many ≡ 23 = rw h refl in omega (arith, wrong, e)
-    go false h true k = let wrong : burstChecks reports many ≡ 24 = rw (h, k) refl in omega (arith, wrong, e)
+    go : (p : Bool) → ltb burstLimit reports ≡ p → (q : Bool) → ltb many reports ≡ q → reports ≤ many
+    go true h q k = let wrong : burstChecks reports many ≡ longBurst = rw h refl in omega (arith, wrong, e)
+    go false h true k = let wrong : burstChecks reports many ≡ shortAnswers = rw (h, k) refl in omega (arith, wrong, e)
     go false h false k = ltb-false many reports k
 
 -- how many reports are tried

@@ -21,7 +21,7 @@ use Rattle.table.specs.Calls.{answered}
 use Rattle.table.specs.History.{answersFrom, tableFrom, Reached}
 use Rattle.table.specs.Numbers.{numbersInto}
 use Rattle.table.proofs.Agreement.Theorem.{reached-further, reached-answers}
-use Rattle.burst.specs.Burst.{reportCalls, burstChecks, burstAnswered, burstAnswersAfter}
+use Rattle.burst.specs.Burst.{reportCalls, burstLimit, burstChecks, burstAnswered, burstAnswersAfter}
 use Rattle.burst.specs.Singles.{afterSingles, singleNumber, EveryBurst, EmptyBurst}
 use Rattle.burst.specs.Reaching.{EveryBurstReached}
 use Rattle.burst.proofs.Laws.{length-calls, number-front, table-all}
@@ -62,15 +62,15 @@ length-into t (x ∷ xs) at (y ∷ ys) room =
 
 checks-long : (reports many : ℕ) → 64 < reports → burstChecks reports many ≡ longBurst
 unfolding burstChecks
-checks-long reports many h = rw (lt-ltb 64 reports h) refl
+checks-long reports many h = rw (lt-ltb burstLimit reports (omega arith)) refl
 
 checks-short : (reports many : ℕ) → reports ≤ 64 → many < reports → burstChecks reports many ≡ shortAnswers
 unfolding burstChecks
-checks-short reports many h k = rw (le-ltb 64 reports h, lt-ltb many reports k) refl
+checks-short reports many h k = rw (le-ltb burstLimit reports (omega arith), lt-ltb many reports k) refl
 
 checks-none : (reports many : ℕ) → reports ≤ 64 → reports ≤ many → burstChecks reports many ≡ 0
 unfolding burstChecks
-checks-none reports many h k = rw (le-ltb 64 reports h, le-ltb many reports k) refl
+checks-none reports many h k = rw (le-ltb burstLimit reports (omega arith), le-ltb many reports k) refl
 
 pub every-burst : EveryBurst
 unfolding burstAnswered burstAnswersAfter

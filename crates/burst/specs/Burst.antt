@@ -22,9 +22,13 @@ reportCalls at (x ∷ xs) = Call.report x at ∷ reportCalls at xs
 
 -- ---- before any report is tried
 
+-- the most reports that a burst may have
+abbrev pub burstLimit : ℕ
+burstLimit = 64
+
 -- the first check that applies, or 0, for so many reports and a lent list of such a length
 unfoldable pub burstChecks : ℕ → ℕ → ℕ
-burstChecks reports listLength = cond (ltb 64 reports) longBurst (cond (ltb listLength reports) shortAnswers 0)
+burstChecks reports listLength = cond (ltb burstLimit reports) longBurst (cond (ltb listLength reports) shortAnswers 0)
 
 -- and how many reports are tried: all of them, or none
 abbrev pub burstChecked : ℕ → ℕ → Checked
@@ -36,7 +40,9 @@ burstChecked reports listLength =
 
 -- ---- the burst
 
--- what it answers, with the table afterwards
+-- what it answers, and the table afterwards:
+-- taken, it leaves the table that the single calls leave, and a refused report does not stop the rest;
+-- refused, it leaves the table as it was
 unfoldable pub burstAnswered : Table → List Record → Reading → List ℕ → Answered
 burstAnswered t reports at lent =
     let number = burstChecks (length reports) (length lent) in
