@@ -6,9 +6,13 @@
 #include "members.h"
 
 #define TEXT "crates/receiving_bench/stdin"
+#define PRINTED "crates/receiving_bench/stdout"
 
 #define MOST_WORDS 64
 #define MOST_CALLS 512
+
+/* Reports of a burst: more than it may have, for those that are refused. */
+#define MOST_REPORTS 1000
 
 /* Characters of a line of the text. */
 #define MOST_TEXT 1024
@@ -29,6 +33,26 @@ static struct {
     size_t length;
     target_t target;
 } bench;
+
+/* A step whose reports are part of a burst: where it stands in the text, and the number it is due. */
+struct burst_step {
+    int line;
+    char text[MOST_TEXT];
+    size_t first; /* of its reports in the burst */
+    size_t count;
+    uint64_t number;
+};
+
+/* The burst whose reports are gathered: it is called with the last of them. */
+static struct {
+    struct burst_step own; /* the step of the burst itself */
+    size_t wanted;
+    size_t count;
+    size_t length; /* of the answer list */
+    record_t records[MOST_REPORTS];
+    size_t step_count;
+    struct burst_step steps[MOST_REPORTS];
+} burst;
 
 static void not_understood(const char *word)
 {
@@ -159,6 +183,18 @@ static void read_report(void)
     };
 }
 
+/* P1's report from another source, of 192.0.2.1 and the port 5000 + source. */
+static void make_report(uint32_t source)
+{
+    if (source > UINT16_MAX - 5000)
+        not_understood("a source without a port");
+    bench.record = (record_t){
+        source,
+        {{[10] = 0xFF, [11] = 0xFF, [12] = 192, [14] = 2, [15] = 1}, (uint16_t)(5000 + source)},
+        {SECONDS(999), bench.stream[0], bench.stream[1], 8910000, 0x03E78000, 33, 1},
+    };
+}
+
 /* ---- Answers --------------------------------------------------------------------------------- */
 
 /* There are so many words in the answer that is due. */
@@ -281,6 +317,96 @@ static uint64_t send_report(void)
     return send_message(message, length, bench.record.origin);
 }
 
+/* ---- Bursts ---------------------------------------------------------------------------------- */
+
+/* Whether reports are still to come for a burst. */
+static int is_gathering(void)
+{
+    return burst.count < burst.wanted;
+}
+
+static void gather_report(void)
+{
+    if (!is_gathering())
+        not_understood("a report more than its burst has");
+    burst.records[burst.count++] = bench.record;
+}
+
+/* The step under way, with the reports from the first of its own on. */
+static void note_step(struct burst_step *step, size_t first)
+{
+    due_words(1);
+    step->line = line;
+    strcpy(step->text, name);
+    step->first = first;
+    step->count = burst.count - first;
+    step->number = number(due[0]);
+}
+
+/* Compares what a step got with what it is due; a failure is told of that step's line. */
+static void check_noted(const struct burst_step *step, uint64_t got)
+{
+    int here = line;
+    const char *text = name;
+
+    line = step->line;
+    name = step->text;
+    check_equal("number", got, step->number);
+    line = here;
+    name = text;
+}
+
+/* The last of a step's numbers that is not 0, or 0. */
+static uint64_t last_refusal(const struct burst_step *step, const uint64_t *list)
+{
+    uint64_t last = 0;
+
+    for (size_t i = step->first; i < step->first + step->count; i++)
+        last = list[i] == 0 ? last : list[i];
+    return last;
+}
+
+/* The list has a number for each report, or none after a refusal; all others are as they were lent. */
+static void check_list(const uint64_t *list, size_t numbers)
+{
+    for (size_t i = numbers; i < burst.length; i++)
+        check_equal("the list as before", list[i], FILL);
+    for (size_t i = 0; i < numbers; i++)
+        check_true("a number in the list", list[i] != FILL);
+}
+
+/* Reports and list stand at their exact lengths on the heap, for valgrind. */
+static void call_burst(void)
+{
+    record_t *records = allocate(burst.count * sizeof *records);
+    uint64_t *list = allocate(burst.length * sizeof *list);
+    answered_t answered;
+
+    memcpy(records, burst.records, burst.count * sizeof *records);
+    for (size_t i = 0; i < burst.length; i++)
+        list[i] = FILL;
+    bench.before = bench.table;
+    answered = prunepocket_report_burst(bench.table, records, burst.count, bench.reading, list,
+                                        burst.length);
+    bench.table = answered.table;
+    check_noted(&burst.own, answered.number);
+    check_list(list, answered.number == PRUNEPOCKET_ACCEPTED ? burst.count : 0);
+    for (size_t i = 0; i < burst.step_count && answered.number == PRUNEPOCKET_ACCEPTED; i++)
+        check_noted(&burst.steps[i], last_refusal(&burst.steps[i], list));
+    free(list);
+    free(records);
+}
+
+/* The reports from the first on are those of the step under way. */
+static void gather_step(size_t first)
+{
+    if (burst.step_count == MOST_REPORTS)
+        not_understood("so many steps of a burst");
+    note_step(&burst.steps[burst.step_count++], first);
+    if (!is_gathering())
+        call_burst();
+}
+
 /* ---- Steps ----------------------------------------------------------------------------------- */
 
 static void step_table(void)
@@ -336,7 +462,28 @@ static void step_datagram(void)
 static void step_report(void)
 {
     read_report();
-    check_call(prunepocket_report(bench.table, bench.record, bench.reading));
+    if (is_gathering()) {
+        gather_report();
+        gather_step(burst.count - 1);
+    } else {
+        check_call(prunepocket_report(bench.table, bench.record, bench.reading));
+    }
+}
+
+/* A refused burst has no steps: none of its reports may be tried. */
+static void step_burst(void)
+{
+    burst.wanted = number_before(asked[0], '\0', MOST_REPORTS);
+    burst.length = number(asked[1]);
+    burst.count = 0;
+    burst.step_count = 0;
+    note_step(&burst.own, 0);
+    for (uint32_t source = 1; burst.own.number != 0 && is_gathering(); source++) {
+        make_report(source);
+        gather_report();
+    }
+    if (!is_gathering())
+        call_burst();
 }
 
 static void step_farewell(void)
@@ -365,27 +512,31 @@ static void step_send_farewell(void)
     check_number(send_message(bye, sizeof bye, origin_of(asked[1])));
 }
 
+/* Each report as a datagram, or all as part of a burst. */
 static void step_fill(void)
 {
-    static char fields[][16] = {"999", "8910000", "0x03E78000"};
     table_t before = bench.table;
     uint32_t last = number(asked[1]);
+    size_t first = burst.count;
+    int in_burst = is_gathering();
     uint64_t answer = 0;
 
     for (uint32_t source = number(asked[0]); source <= last; source++) {
-        char words[2][40];
-        uint64_t got;
+        uint64_t got = 0;
 
-        snprintf(words[0], sizeof words[0], "%" PRIu32, source);
-        snprintf(words[1], sizeof words[1], "192.0.2.1:%" PRIu32, 5000 + source);
-        for (size_t i = 0; i < 5; i++)
-            asked[i] = i < 2 ? words[i] : fields[i - 2];
-        read_report();
-        got = send_report();
+        make_report(source);
+        if (in_burst)
+            gather_report();
+        else
+            got = send_report();
         answer = got == 0 ? answer : got;
     }
-    bench.before = before;
-    check_number(answer);
+    if (in_burst) {
+        gather_step(first);
+    } else {
+        bench.before = before;
+        check_number(answer);
+    }
 }
 
 static void step_take(void)
@@ -613,6 +764,7 @@ static const struct step {
     {"send report", 5, step_send_report},
     {"send farewell", 2, step_send_farewell},
     {"fill", 2, step_fill},
+    {"burst", 2, step_burst},
     {"sweep", 0, step_sweep},
     {"datagram", ANY, step_datagram},
     {"take", 1, step_take},
@@ -634,6 +786,9 @@ static const struct step {
 };
 
 static unsigned long steps_run;
+
+/* Steps whose answer was held against the text's: those of a burst are, at the latest, when it ends. */
+static unsigned long answers;
 
 /* Behind a quoted text that starts here, or here where none does. Its spaces part no words. */
 static char *behind_quotes(char *at)
@@ -685,6 +840,12 @@ static const struct step *find_step(const char *text)
     return NULL;
 }
 
+/* Whether a step may stand between a burst and its last report. */
+static int is_of_burst(const struct step *step)
+{
+    return step->run == step_report || step->run == step_fill || step->run == step_stream;
+}
+
 /* Runs a step, without the two spaces before it. */
 static void run(char *text)
 {
@@ -699,8 +860,28 @@ static void run(char *text)
     step = find_step(text);
     if (split(text + strlen(step->name), asked) != step->arguments && step->arguments != ANY)
         not_understood("so many words");
+    if (is_gathering() && !is_of_burst(step))
+        not_understood("a burst that lacks its reports");
     step->run();
     steps_run++;
+    answers += answer != NULL || step->run == step_unchanged;
+}
+
+/* How many answers the program compares, by the last line of what it prints. */
+static unsigned long answers_printed(void)
+{
+    char text[MOST_TEXT];
+    unsigned long count = 0;
+    FILE *stream = fopen(PRINTED, "r");
+
+    if (stream == NULL) {
+        perror(PRINTED);
+        exit(1);
+    }
+    while (fgets(text, sizeof text, stream) != NULL)
+        sscanf(text, "receiving bench: %lu of", &count);
+    fclose(stream);
+    return count;
 }
 
 int main(void)
@@ -730,8 +911,11 @@ int main(void)
     }
     fclose(stream);
     free(bench.datagram);
+    if (is_gathering())
+        not_understood("a burst that lacks its reports");
     check_true("there are steps", lines > 0);
     check_equal("steps that were run", steps_run, lines);
-    printf("%s: %lu steps\n", file, steps_run);
+    check_equal("answers, as printed by the program", answers, answers_printed());
+    printf("%s: %lu steps, %lu answers\n", file, steps_run, answers);
     return finish_checks();
 }
