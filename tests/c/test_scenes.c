@@ -787,7 +787,7 @@ static const struct step {
 
 static unsigned long steps_run;
 
-/* Steps whose answer was held against the text's: those of a burst are, at the latest, when it ends. */
+/* Steps with an answer: it was held against the text's, for those of a burst with its last report. */
 static unsigned long answers;
 
 /* Behind a quoted text that starts here, or here where none does. Its spaces part no words. */

@@ -2,7 +2,7 @@
  * Holds the tallies of members to document 02 (E5), at every place and at the limit: which answers
  * raise them, through what they stay, when they go, and that choosing does not look at them.
  */
-#include "tables.h"
+#include "datagrams.h"
 
 #define LIMIT PRUNEPOCKET_TALLY_LIMIT
 
