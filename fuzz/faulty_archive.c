@@ -47,6 +47,24 @@
  * 43: a call of a datagram that gets 14 does not raise the tally
  * 44: a place that is not held shows the tally in its memory
  * 45: a report that gets 14 does not raise the tally
+ * 46: a burst stops at its first refused report
+ * 47: a burst's 24 comes before its 23
+ * 48: a burst of 64 reports gets 23
+ * 49: the list of a burst is filled backwards
+ * 50: the number behind those of a burst's reports is written, in a list that has it
+ * 51: a refused burst files its first report
+ * 52: all reports of a burst are filed under the origin of the first
+ * 53: a burst gets 24 where the list is exactly as long
+ * 54: the list of a refused burst is written
+ * 55: the number behind a list that is exactly as long as the burst is written
+ * 56: a report of a burst that gets 14 does not raise the tally
+ * 57: the reports of a burst are taken from the last to the first
+ * 58: the numbers of a burst are those that its reports get from the table before it
+ * 59: the record behind a burst's reports is read
+ * 60: a burst of 65 reports is taken as one of 64
+ * 61: a burst without reports gets 24 where the list has no numbers
+ * 62: a burst's lengths are looked at in eight bits
+ * 63: a refused burst raises the tally that its first report would have raised
  */
 #include "../tests/c/lateness.h"
 #include "prunepocket.h"
@@ -83,6 +101,10 @@ __real_prunepocket_take_datagram(struct prunepocket_table, const uint8_t *, size
 struct prunepocket_datagram_answered
 __wrap_prunepocket_take_datagram(struct prunepocket_table, const uint8_t *, size_t, uint32_t, struct prunepocket_origin,
                                  struct prunepocket_reading, uint64_t *, size_t);
+struct prunepocket_answered __real_prunepocket_report_burst(struct prunepocket_table, const struct prunepocket_record *,
+                                                            size_t, struct prunepocket_reading, uint64_t *, size_t);
+struct prunepocket_answered __wrap_prunepocket_report_burst(struct prunepocket_table, const struct prunepocket_record *,
+                                                            size_t, struct prunepocket_reading, uint64_t *, size_t);
 struct prunepocket_followed __real_prunepocket_choose(struct prunepocket_table, struct prunepocket_reading);
 struct prunepocket_followed __wrap_prunepocket_choose(struct prunepocket_table, struct prunepocket_reading);
 struct prunepocket_answer __real_prunepocket_read_sync_group(const uint8_t *, size_t, uint32_t *);
@@ -294,6 +316,122 @@ __wrap_prunepocket_take_datagram(struct prunepocket_table table, const uint8_t *
     for (size_t place = 0; ARCHIVE_FAULT == 43 && place < PRUNEPOCKET_PLACES; place++)
         if (is_held(&table, place) && answered.table.members[place].tally > table.members[place].tally)
             answered.table.members[place].tally = table.members[place].tally;
+    return answered;
+}
+
+/* What a burst is told. */
+struct burst {
+    const struct prunepocket_record *reports;
+    size_t count;
+    struct prunepocket_reading reading;
+    uint64_t *answers;
+    size_t room;
+};
+
+static struct prunepocket_answered call_burst(struct prunepocket_table table, struct burst burst)
+{
+    return __real_prunepocket_report_burst(table, burst.reports, burst.count, burst.reading, burst.answers, burst.room);
+}
+
+/* The number of a burst by its lengths alone. */
+static uint64_t burst_number(size_t count, size_t room)
+{
+    if (ARCHIVE_FAULT == 62) {
+        count %= 256;
+        room %= 256;
+    }
+    if (ARCHIVE_FAULT == 47 && room < count)
+        return PRUNEPOCKET_SHORT_ANSWERS;
+    if (count > 64 || (ARCHIVE_FAULT == 48 && count == 64))
+        return PRUNEPOCKET_LONG_BURST;
+    if (room < count || (ARCHIVE_FAULT == 53 && count > 0 && room == count) ||
+        (ARCHIVE_FAULT == 61 && count == 0 && room == 0))
+        return PRUNEPOCKET_SHORT_ANSWERS;
+    return PRUNEPOCKET_ACCEPTED;
+}
+
+/* A refused burst, which may do something all the same. */
+static struct prunepocket_answered refuse_burst(struct prunepocket_table table, struct burst burst, uint64_t number)
+{
+    struct prunepocket_answered answered = {.number = number, .table = table};
+
+    if (ARCHIVE_FAULT == 54 && burst.room > 0)
+        burst.answers[0] = 0;
+    if (ARCHIVE_FAULT == 51 || ARCHIVE_FAULT == 63) {
+        struct prunepocket_answered first = __real_prunepocket_report(table, burst.reports[0], burst.reading);
+
+        if ((first.number == PRUNEPOCKET_ACCEPTED) == (ARCHIVE_FAULT == 51))
+            answered.table = first.table;
+    }
+    return answered;
+}
+
+/* The reports one by one, in list order or from the last on, until one is refused, or all. */
+static struct prunepocket_answered take_one_by_one(struct prunepocket_table table, struct burst burst)
+{
+    struct prunepocket_answered answered = {.number = PRUNEPOCKET_ACCEPTED, .table = table};
+
+    for (size_t i = 0; i < burst.count; i++) {
+        size_t at = ARCHIVE_FAULT == 57 ? burst.count - 1 - i : i;
+        struct prunepocket_record record = burst.reports[at];
+
+        if (ARCHIVE_FAULT == 52)
+            record.origin = burst.reports[0].origin;
+        struct prunepocket_answered single = __real_prunepocket_report(answered.table, record, burst.reading);
+
+        if (ARCHIVE_FAULT != 56 || single.number != PRUNEPOCKET_OTHER_ORIGIN)
+            answered.table = single.table;
+        if (ARCHIVE_FAULT == 58)
+            single = __real_prunepocket_report(table, record, burst.reading);
+        burst.answers[at] = single.number;
+        if (ARCHIVE_FAULT == 46 && single.number != PRUNEPOCKET_ACCEPTED)
+            break;
+    }
+    return answered;
+}
+
+static void reverse(uint64_t *numbers, size_t count)
+{
+    for (size_t i = 0; i < count / 2; i++) {
+        uint64_t front = numbers[i];
+
+        numbers[i] = numbers[count - 1 - i];
+        numbers[count - 1 - i] = front;
+    }
+}
+
+/* A burst that is taken is the archive's own, but for the faults within it. */
+__attribute__((no_sanitize("all"))) struct prunepocket_answered
+__wrap_prunepocket_report_burst(struct prunepocket_table table, const struct prunepocket_record *reports,
+                                size_t reports_length, struct prunepocket_reading reading, uint64_t *answers,
+                                size_t answers_length)
+{
+    struct burst burst = {reports, reports_length, reading, answers, answers_length};
+
+    if (ARCHIVE_FAULT == 59 && reports_length > 0) {
+        /* Kept, since valgrind passes over what is read and not used. */
+        volatile uint32_t behind = ((const volatile struct prunepocket_record *)reports)[reports_length].source;
+
+        (void)behind;
+    }
+    if (ARCHIVE_FAULT == 60 && reports_length == 65)
+        burst.count = 64;
+
+    uint64_t number = burst_number(burst.count, burst.room);
+    if (number != PRUNEPOCKET_ACCEPTED)
+        return refuse_burst(table, burst, number);
+    if (ARCHIVE_FAULT == 62)
+        burst.count %= 256;
+
+    int within = ARCHIVE_FAULT == 46 || ARCHIVE_FAULT == 52 || (ARCHIVE_FAULT >= 56 && ARCHIVE_FAULT <= 58);
+    struct prunepocket_answered answered = within ? take_one_by_one(table, burst) : call_burst(table, burst);
+
+    if (ARCHIVE_FAULT == 49)
+        reverse(answers, burst.count);
+    if (ARCHIVE_FAULT == 50 && burst.count < answers_length)
+        answers[burst.count] = 0;
+    if (ARCHIVE_FAULT == 55 && burst.count == answers_length)
+        ((volatile uint64_t *)answers)[answers_length] = 0;
     return answered;
 }
 

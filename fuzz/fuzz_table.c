@@ -1,7 +1,8 @@
 /*
  * Takes every input as a script of calls, gives them to the archive's member table and to the plain register, and
- * aborts where an answer, a member, its place, its tally or the target differs. What a whole datagram holds is the
- * decoder's word. The form of a script is in README.md.
+ * aborts where an answer, a member, its place, its tally or the target differs, or where a burst writes outside of the
+ * numbers that its list is to get. What a whole datagram holds is the decoder's word. The form of a script is in
+ * README.md.
  */
 #include "decoder.h"
 #include "lend.h"
@@ -17,10 +18,14 @@
 
 #define SECOND ((uint64_t)1 << 32)
 
-enum { MOST_CALLS = 600, NUMBERS = 21, MOST_PACKETS = 7, MOST_DATAGRAM = 40 * MOST_PACKETS };
-enum call { OPEN, FILE_REPORT, SAY_FAREWELL, SWEEP, CHOOSE, TAKE_DATAGRAM, CALLS };
+enum { MOST_CALLS = 600, NUMBERS = 25, MOST_PACKETS = 7, MOST_DATAGRAM = 40 * MOST_PACKETS };
+enum call { OPEN, FILE_REPORT, SAY_FAREWELL, SWEEP, CHOOSE, TAKE_DATAGRAM, REPORT_BURST, CALLS };
 
-static const char *const call_names[CALLS] = {"open", "report", "farewell", "sweep", "choose", "take_datagram"};
+static const char *const call_names[CALLS] = {"open",   "report",        "farewell",    "sweep",
+                                              "choose", "take_datagram", "report_burst"};
+
+/* The longest burst that is tried, whose last eight bits say 64. The list is at most one longer, among more numbers. */
+enum { MOST_REPORTS = 320, AROUND_LIST = 512 };
 
 /* What is told apart at a step of 0: the low 16 bits of received, which other steps clear. */
 enum low_bits { LOW_0, LOW_1, LOW_65535, LOW_OTHER, ALL_ONES, LOW_BITS };
@@ -31,10 +36,10 @@ static const char *const low_bits_names[LOW_BITS] = {"low bits 0", "low bits 1",
 /* What is told apart of new members that 13 to 17 let pass: where they stand. */
 enum new_member { AT_0, AT_0_BELOW, BELOW, AT_63_LAST, NO_PLACE, NEW_MEMBERS };
 
-/* What was met, with the number of reports of which at least one must be such. */
+/* What was met, with the number of reports, or of bursts, of which at least one must be such. */
 struct share {
     const char *name;
-    uint64_t reports;
+    uint64_t among;
 };
 
 static const struct share new_member_shares[NEW_MEMBERS] = {
@@ -85,13 +90,41 @@ static const struct share tally_shares[TALLY_CASES] = {
     {"chosen among equals of higher tallies", 1000},
 };
 
+/* What is told apart of bursts: their lengths, and what their reports got. */
+enum burst_case {
+    EMPTY_BURST,
+    FULL_BURST,
+    EXACT_LIST,
+    LONG_WITH_SHORT_LIST,
+    BEHIND_REFUSAL,
+    TWIN_OF_MEMBER,
+    TWIN_IN_BURST,
+    TO_LIMIT_IN_BURST,
+    NO_PLACE_IN_BURST,
+    BURST_CASES
+};
+
+static const struct share burst_shares[BURST_CASES] = {
+    {"without reports", 1000},
+    {"64 reports taken", 500},
+    {"taken with a list exactly as long", 20},
+    {"23 with a list shorter than the reports", 500},
+    {"an accepted report behind a refused one", 100},
+    {"14 under the number of a member from before", 100},
+    {"14 under a number that joined in the burst", 100},
+    {"14 up to the limit, or at it", 20000},
+    {"18 behind an accepted report", 1000},
+};
+
 /*
- * What the fuzzer is told beside the branches: answers by call, at a step of 0, with tallies, rows,
+ * What the fuzzer is told beside the branches: answers by call, in a burst, at a step of 0, with tallies, rows,
  * the place of a new member with none held above it, with some, or with all others held, and how a
  * target came about.
  */
 enum {
-    BY_LOW_BITS = CALLS * NUMBERS,
+    BY_BURST = CALLS * NUMBERS,
+    IN_BURST = BY_BURST + BURST_CASES,
+    BY_LOW_BITS = IN_BURST + NUMBERS,
     BY_TALLY = BY_LOW_BITS + LOW_BITS * NUMBERS,
     BY_ROWS = BY_TALLY + TALLY_CASES,
     BY_PLACE = BY_ROWS + 65,
@@ -113,6 +146,9 @@ static uint64_t new_members[NEW_MEMBERS];
 
 /* What was done to tallies, by calls and in datagrams. */
 static uint64_t tallies_met[TALLY_CASES];
+
+/* Bursts; their reports by number, which are not among the reports above; what was met in them. */
+static uint64_t bursts, in_bursts[NUMBERS], bursts_met[BURST_CASES];
 
 /* Below so many reports, as where one input is run, a share says nothing. */
 #define ENOUGH_REPORTS 10000
@@ -159,41 +195,53 @@ static void print_step_0(void)
         at_least(low_bits_names[i], count_step_0(i), reports / 1000);
 }
 
-static void print_shares(const char *what, const struct share *shares, const uint64_t *counts, size_t length)
+static void print_shares(const char *what, const struct share *shares, const uint64_t *counts, size_t length,
+                         uint64_t all)
 {
     fprintf(stderr, "%s:", what);
     for (size_t i = 0; i < length; i++)
         fprintf(stderr, " %s %" PRIu64 ";", shares[i].name, counts[i]);
     fputs("\n", stderr);
     for (size_t i = 0; i < length; i++)
-        at_least(shares[i].name, counts[i], reports / shares[i].reports);
+        at_least(shares[i].name, counts[i], all / shares[i].among);
+}
+
+static void print_numbers(const char *what, const uint64_t *counts)
+{
+    fprintf(stderr, "%s:", what);
+    for (size_t number = 0; number < NUMBERS; number++)
+        if (counts[number] > 0)
+            fprintf(stderr, " %zu %" PRIu64 ";", number, counts[number]);
+    fputs("\n", stderr);
 }
 
 static void print_met(void)
 {
-    for (size_t call = 0; call < CALLS; call++) {
-        fprintf(stderr, "%s:", call_names[call]);
-        for (size_t number = 0; number < NUMBERS; number++)
-            if (met[call][number] > 0)
-                fprintf(stderr, " %zu %" PRIu64 ";", number, met[call][number]);
-        fputs("\n", stderr);
-    }
+    for (size_t call = 0; call < CALLS; call++)
+        print_numbers(call_names[call], met[call]);
+    print_numbers("reports in bursts", in_bursts);
     fprintf(stderr, "targets: %" PRIu64 " by presentation, %" PRIu64 " among equals; %" PRIu64 " by arrival, %" PRIu64
                     " among equals\n",
             targets[0], ties[0], targets[1], ties[1]);
     print_step_0();
-    print_shares("new members", new_member_shares, new_members, NEW_MEMBERS);
-    print_shares("tallies", tally_shares, tallies_met, TALLY_CASES);
+    print_shares("new members", new_member_shares, new_members, NEW_MEMBERS, reports);
+    print_shares("tallies", tally_shares, tallies_met, TALLY_CASES, reports);
+    print_shares("bursts", burst_shares, bursts_met, BURST_CASES, bursts);
     fprintf(stderr, "reports replaced: %" PRIu64 "; members swept: %" PRIu64 "; at most %" PRIu64
                     " members; looks at all members: %" PRIu64 "\n",
             replaced, swept, most_rows, looks);
     fprintf(stderr, "datagrams accepted at reduced size that otherwise get 4: %" PRIu64 "\n", reduced);
 }
 
+/* What bursts are lent: the reports, and a list among other numbers. */
+static struct lent report_memory, list_memory;
+
 int LLVMFuzzerInitialize(int *argc, char ***argv)
 {
     (void)argc;
     (void)argv;
+    report_memory = lend(MOST_REPORTS * sizeof(struct prunepocket_record));
+    list_memory = lend(AROUND_LIST * sizeof(uint64_t));
     atexit(print_met);
     return 0;
 }
@@ -675,6 +723,134 @@ static void datagram_both(struct sides *sides, const struct arrival *arrival)
     look_at_sources(sides, &decoded);
 }
 
+/* ---- Bursts ---- */
+
+struct burst {
+    struct row rows[MOST_REPORTS];
+    size_t count;
+    size_t room; /* how many numbers the list has */
+    struct clocks now;
+};
+
+static void count_burst(enum burst_case burst_case)
+{
+    bursts_met[burst_case]++;
+    counters[BY_BURST + burst_case] = 1;
+}
+
+/* Lengths alone. */
+static void count_lengths(const struct burst *burst, unsigned number)
+{
+    bursts++;
+    if (burst->count == 0)
+        count_burst(EMPTY_BURST);
+    if (burst->count == 64 && number == 0)
+        count_burst(FULL_BURST);
+    if (burst->count > 0 && burst->room == burst->count && number == 0)
+        count_burst(EXACT_LIST);
+    if (number == 23 && burst->room < burst->count)
+        count_burst(LONG_WITH_SHORT_LIST);
+}
+
+/* A report of a burst got a number; before the burst these places were held, and its number had this tally just now. */
+static void count_in_burst(const struct sides *sides, const bool *held, uint32_t source, unsigned number,
+                           uint32_t tally)
+{
+    in_bursts[number]++;
+    counters[IN_BURST + number] = 1;
+    if (number == 14) {
+        count_burst(held[place_of(&sides->rows, source)] ? TWIN_OF_MEMBER : TWIN_IN_BURST);
+        if (tally >= TALLY_LIMIT - 1)
+            count_burst(TO_LIMIT_IN_BURST);
+    }
+}
+
+/* The register's numbers for the reports of a burst, one by one in list order. */
+static void burst_expected(struct sides *sides, const struct burst *burst, uint64_t *numbers)
+{
+    bool held[PLACES], refused = false, accepted = false, behind_refusal = false, no_place = false;
+
+    memcpy(held, sides->rows.held, sizeof held);
+    for (size_t i = 0; i < burst->count; i++) {
+        const struct row *row = &burst->rows[i];
+        bool is_member = register_row(&sides->rows, row->source) != NULL;
+        uint32_t tally = register_last_tally(&sides->rows, row->source);
+        unsigned number = register_report(&sides->rows, row, burst->now);
+
+        if (number == 0 && !is_member)
+            sides->left[place_of(&sides->rows, row->source)] = NONE_LEFT;
+        count_in_burst(sides, held, row->source, number, tally);
+        behind_refusal |= refused && number == 0;
+        no_place |= accepted && number == 18;
+        refused |= number != 0;
+        accepted |= number == 0;
+        numbers[i] = number;
+    }
+    if (behind_refusal)
+        count_burst(BEHIND_REFUSAL);
+    if (no_place)
+        count_burst(NO_PLACE_IN_BURST);
+}
+
+/* What the archive answers, and the numbers among which the list stands. */
+struct burst_taken {
+    struct prunepocket_answered answered;
+    uint64_t numbers[AROUND_LIST];
+    size_t first; /* of the list */
+};
+
+/* The archive's answer, where reports and list both end at pages that may not be touched, or start at them. */
+static void call_burst(const struct sides *sides, const struct burst *burst, bool at_end, struct burst_taken *taken)
+{
+    size_t bytes = burst->count * sizeof(struct prunepocket_record);
+    struct prunepocket_record *records =
+        (struct prunepocket_record *)(at_end ? report_memory.end - bytes : report_memory.start);
+    uint64_t *numbers = (uint64_t *)(at_end ? list_memory.end - sizeof taken->numbers : list_memory.start);
+    struct prunepocket_reading reading = {.ntp = burst->now.n, .rtp = burst->now.r};
+    static struct prunepocket_record copy[MOST_REPORTS];
+
+    for (size_t i = 0; i < burst->count; i++)
+        copy[i] = to_record(&burst->rows[i]);
+    memcpy(records, copy, bytes);
+    for (size_t i = 0; i < AROUND_LIST; i++)
+        numbers[i] = fill(i);
+    taken->first = at_end ? AROUND_LIST - burst->room : 0;
+    taken->answered = prunepocket_report_burst(sides->table, records, burst->count, reading, numbers + taken->first,
+                                               burst->room);
+    memcpy(taken->numbers, numbers, sizeof taken->numbers);
+    same("reports of a burst are written on", memcmp(records, copy, bytes) != 0, 0);
+}
+
+/* The list has so many numbers at its front. Behind them, and around the list, all is as before. */
+static void same_list(const struct burst_taken *taken, const uint64_t *numbers, size_t count)
+{
+    for (size_t i = 0; i < AROUND_LIST; i++) {
+        bool in_front = i >= taken->first && i - taken->first < count;
+
+        same(in_front ? "list of report_burst" : "list of report_burst as before", taken->numbers[i],
+             in_front ? numbers[i - taken->first] : fill(i));
+    }
+}
+
+static void burst_both(struct sides *sides, const struct burst *burst)
+{
+    static struct burst_taken taken[2];
+    uint64_t numbers[64];
+    unsigned number = register_burst(burst->count, burst->room);
+
+    for (size_t i = 0; i < 2; i++)
+        call_burst(sides, burst, i == 1, &taken[i]);
+    count_lengths(burst, number);
+    if (number == 0)
+        burst_expected(sides, burst, numbers);
+    same("report_burst", taken[0].answered.number, number);
+    same_table(&taken[0].answered.table, &taken[1].answered.table);
+    take(sides, REPORT_BURST, &taken[1].answered, number);
+    for (size_t i = 0; i < 2; i++)
+        same_list(&taken[i], numbers, number == 0 ? burst->count : 0);
+    look(sides);
+}
+
 /* ---- The script ---- */
 
 struct script {
@@ -978,6 +1154,119 @@ static void arrive(struct script *script, const struct told *report, struct arri
         arrival->bytes[changed] ^= bits;
 }
 
+/* What calls leave for those behind them: the clocks and the last report. */
+struct state {
+    struct clocks now;
+    struct told report;
+};
+
+/* From 192 on around the most that a burst may have. */
+static size_t burst_length(struct script *script)
+{
+    uint8_t said = byte(script);
+    size_t around = 62 + said % 6;
+
+    if (said < 192)
+        return said % 64;
+    return around == 67 ? MOST_REPORTS : around;
+}
+
+/* The length of the list: mostly that of the reports, or around it. */
+static size_t list_length(struct script *script, size_t count)
+{
+    uint8_t said = byte(script);
+
+    switch (said % 8) {
+    default: /* 0 to 2 */
+        return count;
+    case 3:
+        return count > 0 ? count - 1 : 0;
+    case 4:
+        return count + 1;
+    case 5:
+        return 64;
+    case 6:
+        return 0;
+    case 7:
+        return said / 8;
+    }
+}
+
+/* A report that is refused, or one that has P 0. */
+static void spoil(struct told *report, uint8_t how, struct clocks now, uint32_t rate)
+{
+    switch (how % 8) {
+    case 0:
+        report->group ^= 1;
+        break;
+    case 1:
+        report->media ^= 1;
+        break;
+    case 2:
+        report->received = now.n + 1;
+        break;
+    case 3:
+        report->received = now.n - 30 * SECOND - 1;
+        break;
+    case 4:
+        report->rtp = now.r + 1;
+        break;
+    case 5:
+        report->rtp = now.r - 60 * rate - 1;
+        break;
+    case 6:
+        report->p = 1;
+        report->presented = (uint32_t)(report->received >> 16) + 30 * 65536 + 1;
+        break;
+    default:
+        report->p = 0;
+        break;
+    }
+}
+
+/* Which number the report at an index has: each one more, all the same, each twice, or five in turn. */
+static uint32_t burst_source(uint32_t from, uint32_t index, uint8_t how)
+{
+    switch (how % 4) {
+    default: /* 0 */
+        return from + index;
+    case 1:
+        return from;
+    case 2:
+        return from + index / 2;
+    case 3:
+        return from + index % 5;
+    }
+}
+
+/*
+ * The lengths of reports and list, the first source, two origins, and of eight reports in turn which are of the second
+ * origin and which are spoilt. All are the last report but for that, and are told apart by the payload type.
+ */
+static void read_burst(struct script *script, const struct sides *sides, const struct state *state, struct burst *burst)
+{
+    burst->count = burst_length(script);
+    burst->room = list_length(script, burst->count);
+    burst->now = state->now;
+
+    uint32_t from = source(script);
+    struct from origins[2] = {origin(script)};
+    uint8_t how = byte(script);
+    origins[1] = origin(script);
+    uint8_t twins = byte(script);
+    uint8_t spoilt = byte(script);
+    for (uint32_t i = 0; i < burst->count; i++) {
+        struct row *row = &burst->rows[i];
+
+        row->source = burst_source(from, i, how);
+        row->origin = origins[twins >> i % 8 & 1];
+        row->report = state->report;
+        row->report.payload_type = (uint8_t)(row->report.payload_type + i);
+        if (spoilt >> i % 8 & 1)
+            spoil(&row->report, how / 4, burst->now, sides->rows.rate);
+    }
+}
+
 /* Many sources report alike, or each a slot later than the one before; from 64 on every second with P 1 and step 0. */
 static void report_alike(struct script *script, struct sides *sides, uint8_t said, const struct told *report,
                          struct clocks now)
@@ -1062,12 +1351,6 @@ static void choose_at_limit(struct script *script, struct sides *sides, uint8_t 
     }
 }
 
-/* What calls leave for those behind them: the clocks and the last report. */
-struct state {
-    struct clocks now;
-    struct told report;
-};
-
 /* A report with times of its own. */
 static void report_anew(struct script *script, struct sides *sides, struct state *state)
 {
@@ -1137,9 +1420,24 @@ static void call_choose(struct script *script, struct sides *sides, uint8_t said
     }
 }
 
-static void call_one(struct script *script, struct sides *sides, struct state *state)
+/* A whole datagram, or a burst of reports. */
+static void call_many(struct script *script, struct sides *sides, uint8_t said, const struct state *state)
 {
     static struct arrival arrival;
+    static struct burst burst;
+
+    if (said & 16) {
+        read_burst(script, sides, state, &burst);
+        burst_both(sides, &burst);
+    } else {
+        arrive(script, &state->report, &arrival);
+        arrival.now = state->now;
+        datagram_both(sides, &arrival);
+    }
+}
+
+static void call_one(struct script *script, struct sides *sides, struct state *state)
+{
     uint8_t said = byte(script);
 
     switch (said % 12) {
@@ -1161,9 +1459,7 @@ static void call_one(struct script *script, struct sides *sides, struct state *s
         state->now = move(script, state->now, sides->rows.rate);
         break;
     case 11:
-        arrive(script, &state->report, &arrival);
-        arrival.now = state->now;
-        datagram_both(sides, &arrival);
+        call_many(script, sides, said, state);
         break;
     }
 }

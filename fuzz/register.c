@@ -220,6 +220,15 @@ unsigned register_report(struct plain_register *rows, const struct row *row, str
     return number;
 }
 
+unsigned register_burst(size_t reports, size_t numbers)
+{
+    if (reports > 64)
+        return 23;
+    if (numbers < reports)
+        return 24;
+    return 0;
+}
+
 static unsigned answer_farewell(struct plain_register *rows, uint32_t source, const struct from *origin)
 {
     const struct row *row = register_row(rows, source);

@@ -1,5 +1,5 @@
 /*
- * The plain register and choosing, written from document 01 and E3, E4 and E5 of
+ * The plain register and choosing, written from document 01 and E3, E4, E5 and E6 of
  * document 02 alone. It is fed the calls' arguments and nothing from the table that
  * it is compared with. A tally is counted in the list of calls, where it is asked for.
  */
@@ -90,6 +90,12 @@ unsigned register_open(struct plain_register *rows, uint32_t group, uint32_t med
 unsigned register_report(struct plain_register *rows, const struct row *row, struct clocks now);
 unsigned register_farewell(struct plain_register *rows, uint32_t source, const struct from *origin);
 void register_sweep(struct plain_register *rows, struct clocks now);
+
+/*
+ * The number of a burst of so many reports with so many numbers to answer in, before any of them is tried. Where it is
+ * 0, each report is then one of register_report, in list order.
+ */
+unsigned register_burst(size_t reports, size_t numbers);
 
 struct choice register_choose(const struct plain_register *rows, struct clocks now);
 

@@ -139,21 +139,21 @@ static table_t call_burst(table_t table, const struct burst *burst, size_t aroun
 /* The table after a burst that is taken, with a number for each report. */
 static table_t burst_taken(table_t table, struct burst burst, const uint64_t *numbers)
 {
-    table_t exact = call_burst(table, &burst, 0, PRUNEPOCKET_ACCEPTED, numbers);
     table_t after = call_burst(table, &burst, AROUND, PRUNEPOCKET_ACCEPTED, numbers);
+    table_t again = call_burst(table, &burst, 0, PRUNEPOCKET_ACCEPTED, numbers);
 
-    check_true("burst: the same table again", same_table(&exact, &after));
+    check_true("burst: the same table again", same_table(&again, &after));
     return after;
 }
 
 /* Refused: table, tallies and list are as before. */
 static void burst_refused(table_t table, struct burst burst, uint64_t number)
 {
-    table_t exact = call_burst(table, &burst, 0, number, NULL);
     table_t after = call_burst(table, &burst, AROUND, number, NULL);
+    table_t again = call_burst(table, &burst, 0, number, NULL);
 
-    check_true("burst: the table after a refusal", same_table(&exact, &table));
     check_true("burst: the table after a refusal", same_table(&after, &table));
+    check_true("burst: the table after a refusal", same_table(&again, &table));
 }
 
 /* At the reading of the cases, with a list that is exactly as long. */
