@@ -454,6 +454,23 @@ static void test_twins_of_members(void)
     check_tallied(table, 1, record_20(), 2);
 }
 
+static void test_refused_twins(void)
+{
+    static const uint64_t numbers[] = {PRUNEPOCKET_OTHER_ORIGIN};
+    record_t reports[MOST_REPORTS + 1];
+    table_t table = with_two(record_20(), record_10());
+
+    CASE("a refused burst of a twin raises no tally");
+    table.members[1].tally = 5;
+    for (size_t i = 0; i < LENGTH(reports); i++)
+        reports[i] = twin_at(unit(11));
+    burst_refused(table, (struct burst){reports, 65, now, 65}, PRUNEPOCKET_LONG_BURST);
+    burst_refused(table, (struct burst){reports, 65, now, 64}, PRUNEPOCKET_LONG_BURST);
+    burst_refused(table, (struct burst){reports, 64, now, 63}, PRUNEPOCKET_SHORT_ANSWERS);
+    burst_refused(table, (struct burst){reports, 1, now, 0}, PRUNEPOCKET_SHORT_ANSWERS);
+    check_tallied(burst_taken(table, BURST(reports, 1), numbers), 1, record_10(), 6);
+}
+
 /* Each of the 144 bits of an origin counts, and each report stands under its own origin. */
 static void test_origins(void)
 {
@@ -906,6 +923,7 @@ int main(void)
     test_two_twins();
     test_twins_among_reports();
     test_twins_of_members();
+    test_refused_twins();
     test_origins();
     test_refused_among();
     test_all_refusals();
