@@ -799,6 +799,13 @@ struct burst_taken {
     size_t first; /* of the list */
 };
 
+/* Each number has a value of its own. */
+static void fill_numbers(uint64_t *numbers, size_t length)
+{
+    for (size_t i = 0; i < length; i++)
+        numbers[i] = fill(i);
+}
+
 /* The archive's answer, where reports and list both end at pages that may not be touched, or start at them. */
 static void call_burst(const struct sides *sides, const struct burst *burst, bool at_end, struct burst_taken *taken)
 {
@@ -812,8 +819,7 @@ static void call_burst(const struct sides *sides, const struct burst *burst, boo
     for (size_t i = 0; i < burst->count; i++)
         copy[i] = to_record(&burst->rows[i]);
     memcpy(records, copy, bytes);
-    for (size_t i = 0; i < AROUND_LIST; i++)
-        numbers[i] = fill(i);
+    fill_numbers(numbers, AROUND_LIST);
     taken->first = at_end ? AROUND_LIST - burst->room : 0;
     taken->answered = prunepocket_report_burst(sides->table, records, burst->count, reading, numbers + taken->first,
                                                burst->room);
@@ -834,20 +840,21 @@ static void same_list(const struct burst_taken *taken, const uint64_t *numbers, 
 
 static void burst_both(struct sides *sides, const struct burst *burst)
 {
-    static struct burst_taken taken[2];
+    static struct burst_taken at_start, at_end;
     uint64_t numbers[64];
     unsigned number = register_burst(burst->count, burst->room);
+    size_t count = number == 0 ? burst->count : 0;
 
-    for (size_t i = 0; i < 2; i++)
-        call_burst(sides, burst, i == 1, &taken[i]);
+    call_burst(sides, burst, false, &at_start);
+    call_burst(sides, burst, true, &at_end);
     count_lengths(burst, number);
     if (number == 0)
         burst_expected(sides, burst, numbers);
-    same("report_burst", taken[0].answered.number, number);
-    same_table(&taken[0].answered.table, &taken[1].answered.table);
-    take(sides, REPORT_BURST, &taken[1].answered, number);
-    for (size_t i = 0; i < 2; i++)
-        same_list(&taken[i], numbers, number == 0 ? burst->count : 0);
+    same("report_burst", at_start.answered.number, number);
+    same_table(&at_start.answered.table, &at_end.answered.table);
+    take(sides, REPORT_BURST, &at_end.answered, number);
+    same_list(&at_start, numbers, count);
+    same_list(&at_end, numbers, count);
     look(sides);
 }
 

@@ -16,7 +16,7 @@ _Static_assert(MOST_REPORTS == PRUNEPOCKET_PLACES, "64 reports and 64 places");
 
 #define GUARD 0xC3
 
-/* Memory for a call, with bytes around it that must stay, or without, so that valgrind sees its ends. */
+/* Memory for a call, with bytes around it that must stay; without these, valgrind sees its ends. */
 struct lent {
     uint8_t *block;
     size_t bytes;
@@ -196,6 +196,18 @@ static void put_arrivals(record_t *reports, size_t count, uint32_t first)
 {
     for (size_t i = 0; i < count; i++)
         reports[i] = arrival(first + (uint32_t)i);
+}
+
+static void put_numbers(uint64_t *numbers, size_t count, uint64_t number)
+{
+    for (size_t i = 0; i < count; i++)
+        numbers[i] = number;
+}
+
+static void put_alike(record_t *reports, size_t count, record_t record)
+{
+    for (size_t i = 0; i < count; i++)
+        reports[i] = record;
 }
 
 static record_t from_origin(record_t record, origin_t origin)
@@ -462,8 +474,7 @@ static void test_refused_twins(void)
 
     CASE("a refused burst of a twin raises no tally");
     table.members[1].tally = 5;
-    for (size_t i = 0; i < LENGTH(reports); i++)
-        reports[i] = twin_at(unit(11));
+    put_alike(reports, LENGTH(reports), twin_at(unit(11)));
     burst_refused(table, (struct burst){reports, 65, now, 65}, PRUNEPOCKET_LONG_BURST);
     burst_refused(table, (struct burst){reports, 65, now, 64}, PRUNEPOCKET_LONG_BURST);
     burst_refused(table, (struct burst){reports, 64, now, 63}, PRUNEPOCKET_SHORT_ANSWERS);
@@ -518,8 +529,8 @@ static void check_refused_among(uint64_t number, size_t place)
 static void test_refused_among(void)
 {
     CASE("a report refused with 13 to 17, at each place of a burst");
-    for (uint64_t number = PRUNEPOCKET_OTHER_STREAM; number <= PRUNEPOCKET_BADLY_PRESENTED; number++) {
-        for (size_t place = 0; place < 9; place++)
+    for (size_t place = 0; place < 9; place++) {
+        for (uint64_t number = PRUNEPOCKET_OTHER_STREAM; number < PRUNEPOCKET_NO_ROOM; number++)
             check_refused_among(number, place);
     }
 }
@@ -552,27 +563,29 @@ static void test_all_refusals(void)
     check_member(table, 63, marked(arrival(163), 2));
 }
 
-/* As many as there can be, all refused alike: none of them changes anything but the holder's tally. */
-static void test_all_refused(void)
+/* As many as there can be, into a full table: nothing is changed but the tally of source 10. */
+static void check_all_refused(uint64_t number)
 {
     record_t reports[MOST_REPORTS];
     uint64_t numbers[MOST_REPORTS];
+    table_t table = full_table();
+    table_t expected;
 
+    table.members[17].record = record_10();
+    expected = table;
+    expected.members[17].tally = number == PRUNEPOCKET_OTHER_ORIGIN ? MOST_REPORTS : 0;
+    put_alike(reports, MOST_REPORTS,
+              number == PRUNEPOCKET_NO_ROOM ? arrival(200) : refused_with(number));
+    put_numbers(numbers, MOST_REPORTS, number);
+    table = TAKEN(table, reports, numbers);
+    check_true("the table", same_table(&table, &expected));
+}
+
+static void test_all_refused(void)
+{
     CASE("sixty-four reports that are all refused alike");
-    for (uint64_t number = PRUNEPOCKET_OTHER_STREAM; number <= PRUNEPOCKET_NO_ROOM; number++) {
-        table_t table = full_table();
-        table_t expected;
-
-        table.members[17].record = record_10();
-        expected = table;
-        for (size_t i = 0; i < MOST_REPORTS; i++) {
-            reports[i] = number == PRUNEPOCKET_NO_ROOM ? arrival(200) : refused_with(number);
-            numbers[i] = number;
-        }
-        expected.members[17].tally = number == PRUNEPOCKET_OTHER_ORIGIN ? MOST_REPORTS : 0;
-        table = TAKEN(table, reports, numbers);
-        check_true("the table", same_table(&table, &expected));
-    }
+    for (uint64_t number = PRUNEPOCKET_OTHER_STREAM; number <= PRUNEPOCKET_NO_ROOM; number++)
+        check_all_refused(number);
 }
 
 /* ---- Places ---------------------------------------------------------------------------------- */
@@ -595,19 +608,29 @@ static void test_filling(void)
     table = TAKEN(table, reports, numbers);
     check_true("the table as before", same_table(&table, &full));
 
-    CASE("the highest number first");
-    for (uint32_t i = 0; i < MOST_REPORTS; i++)
-        reports[i] = arrival(163 - i);
-    table = TAKEN(opened(), reports, numbers);
-    for (uint32_t i = 0; i < MOST_REPORTS; i++)
-        check_member(table, i, arrival(163 - i));
-
     CASE("64 new numbers where all places are held");
     put_arrivals(reports, MOST_REPORTS, 200);
-    for (size_t i = 0; i < MOST_REPORTS; i++)
-        numbers[i] = PRUNEPOCKET_NO_ROOM;
+    put_numbers(numbers, MOST_REPORTS, PRUNEPOCKET_NO_ROOM);
     table = TAKEN(full, reports, numbers);
     check_true("the table as before", same_table(&table, &full));
+}
+
+/* Places go by list order, and not by number. */
+static void test_falling_numbers(void)
+{
+    record_t reports[MOST_REPORTS];
+    uint64_t numbers[MOST_REPORTS] = {0};
+    table_t expected = table_of(UINT64_MAX);
+    table_t table;
+
+    CASE("a burst of 64 with the highest number first");
+    for (uint32_t i = 0; i < MOST_REPORTS; i++) {
+        reports[i] = arrival(163 - i);
+        expected.members[i].record = reports[i];
+    }
+    table = TAKEN(opened(), reports, numbers);
+    check_places(&table, &expected);
+    check_chosen(table, now, 100, 64);
 }
 
 /* 64 new numbers: the first take the free places, lowest first, and the others get 18. */
@@ -713,6 +736,16 @@ static void test_new_number(void)
 
 /* ---- The reading ----------------------------------------------------------------------------- */
 
+/* A report that was received at a reading. */
+static record_t arrival_at(uint32_t source, reading_t reading)
+{
+    record_t record = arrival(source);
+
+    record.report.received = reading.ntp;
+    record.report.rtp = reading.rtp;
+    return record;
+}
+
 /* At the limits of 15 and 16, and a unit or a tick beside. */
 static void check_at_limits(reading_t reading)
 {
@@ -720,20 +753,20 @@ static void check_at_limits(reading_t reading)
     record_t reports[LENGTH(numbers)];
     table_t table;
 
-    for (size_t i = 0; i < LENGTH(reports); i++) {
-        reports[i] = arrival(60 + (uint32_t)i);
-        reports[i].report.received = reading.ntp;
-        reports[i].report.rtp = reading.rtp;
-    }
+    put_alike(reports, LENGTH(reports), arrival_at(60, reading));
     reports[0].report.received = reading.ntp - SECONDS(30);
     reports[1].report.received = reading.ntp - SECONDS(30) - 1;
     reports[3].report.received = reading.ntp + 1;
     reports[4].report.rtp = reading.rtp - 60 * RATE;
     reports[5].report.rtp = reading.rtp - 60 * RATE - 1;
     reports[7].report.rtp = reading.rtp + 1;
-    table = burst_taken(opened(), (struct burst){reports, LENGTH(reports), reading, 8}, numbers);
-    for (size_t i = 0; i < LENGTH(reports); i += 2)
-        check_member(table, i / 2, reports[i]);
+    for (uint32_t i = 0; i < LENGTH(reports); i++)
+        reports[i].source = 60 + i;
+    table = burst_taken(opened(), (struct burst){reports, 8, reading, 8}, numbers);
+    check_member(table, 0, reports[0]);
+    check_member(table, 1, reports[2]);
+    check_member(table, 2, reports[4]);
+    check_member(table, 3, reports[6]);
     check_equal("members", prunepocket_count_members(table), 4);
 }
 
@@ -850,23 +883,23 @@ static table_t random_burst(table_t table, const record_t *reports, size_t count
     return after;
 }
 
+/* The table after a burst of any length. */
+static table_t any_burst(table_t table, int few)
+{
+    record_t reports[MOST_REPORTS];
+    size_t count = random_length();
+
+    for (size_t i = 0; i < count; i++)
+        reports[i] = random_report(few);
+    return random_burst(table, reports, count, now);
+}
+
 /* From every state, two bursts in turn. */
 static void test_random_bursts(void)
 {
-    record_t reports[MOST_REPORTS];
-
     CASE("random bursts, as the single reports");
-    for (size_t i = 0; i < RANDOM_BURSTS; i++) {
-        table_t table = states[i % STATES];
-
-        for (int again = 0; again < 2; again++) {
-            size_t count = random_length();
-
-            for (size_t j = 0; j < count; j++)
-                reports[j] = random_report(i % 2 == 0);
-            table = random_burst(table, reports, count, now);
-        }
-    }
+    for (size_t i = 0; i < RANDOM_BURSTS; i++)
+        any_burst(any_burst(states[i % STATES], i % 2 == 0), i % 2 == 0);
 }
 
 /* One report more than a burst may have. They share their times, so that one reading suits them. */
@@ -929,6 +962,7 @@ int main(void)
     test_all_refusals();
     test_all_refused();
     test_filling();
+    test_falling_numbers();
     test_free_places();
     test_one_number();
     test_new_number();

@@ -366,31 +366,37 @@ static uint64_t last_refusal(const struct burst_step *step, const uint64_t *list
     return last;
 }
 
-/* The list has a number for each report, or none after a refusal; all others are as they were lent. */
-static void check_list(const uint64_t *list, size_t numbers)
+/* The list stands at its exact length on the heap, for valgrind. */
+static uint64_t *lend_list(size_t length)
 {
-    for (size_t i = numbers; i < burst.length; i++)
-        check_equal("the list as before", list[i], FILL);
-    for (size_t i = 0; i < numbers; i++)
-        check_true("a number in the list", list[i] != FILL);
+    uint64_t *list = allocate(length * sizeof *list);
+
+    for (size_t i = 0; i < length; i++)
+        list[i] = FILL;
+    return list;
 }
 
-/* Reports and list stand at their exact lengths on the heap, for valgrind. */
+/* So many numbers at the front of the list were written, and no others. */
+static void check_list(const uint64_t *list, size_t length, size_t written)
+{
+    for (size_t i = 0; i < length; i++)
+        check_equal("the list as before", list[i] == FILL, i >= written);
+}
+
+/* The reports stand at their exact length, too. */
 static void call_burst(void)
 {
     record_t *records = allocate(burst.count * sizeof *records);
-    uint64_t *list = allocate(burst.length * sizeof *list);
+    uint64_t *list = lend_list(burst.length);
     answered_t answered;
 
     memcpy(records, burst.records, burst.count * sizeof *records);
-    for (size_t i = 0; i < burst.length; i++)
-        list[i] = FILL;
     bench.before = bench.table;
     answered = prunepocket_report_burst(bench.table, records, burst.count, bench.reading, list,
                                         burst.length);
     bench.table = answered.table;
     check_noted(&burst.own, answered.number);
-    check_list(list, answered.number == PRUNEPOCKET_ACCEPTED ? burst.count : 0);
+    check_list(list, burst.length, answered.number == PRUNEPOCKET_ACCEPTED ? burst.count : 0);
     for (size_t i = 0; i < burst.step_count && answered.number == PRUNEPOCKET_ACCEPTED; i++)
         check_noted(&burst.steps[i], last_refusal(&burst.steps[i], list));
     free(list);
