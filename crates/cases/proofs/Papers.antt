@@ -14,6 +14,7 @@ use Rattle.table.specs.Members.{emptyTable, placeAt, placeOf}
 use Rattle.table.specs.Calls.{opened, numberOf, filed, refusedBy, answered}
 use Rattle.table.specs.Choose.{choiceOf}
 use Rattle.table.specs.History.{answersFrom, tableFrom}
+use Rattle.burst.specs.Burst.{reportCalls, burstChecks, burstAnswered, burstAnswersAfter}
 use Rattle.writer.specs.Messages.{reportIsUnwritable}
 use Rattle.cases.specs.Cases.{papers, AllHold}
 
@@ -21,7 +22,7 @@ pub papers-hold : AllHold papers
 unfolding AllHold papers differenceMod step unwrapped expanded delay sameBytes sameOrigin trailingZeros isHeld heldIn
     lowestFree withPlace withoutPlace reportChecks farewellChecks recordsOf lateness latest emptyTable markedAt placeAt
     placeOf filterWord opened numberOf filed refusedBy answered latestTarget choiceAmong choiceOf answersFrom tableFrom
-    reportIsUnwritable
+    reportIsUnwritable reportCalls burstChecks burstAnswered burstAnswersAfter
 papers-hold = (
   (refl, refl),
   (
@@ -48,7 +49,7 @@ papers-hold = (
                         (refl, refl, refl),
                         (
                           (refl, refl, refl),
-                          ((refl, refl), ((refl, refl, refl, refl, refl), ((refl, refl, refl, refl), tt))),
+                          ((refl, refl), ((refl, refl, refl, refl, refl), ((refl, refl, refl, refl), ((refl, refl, refl, refl, refl, refl), tt)))),
                         ),
                       ),
                     ),

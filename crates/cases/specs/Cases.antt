@@ -1,5 +1,5 @@
--- The bench cases of document 01 that are marked P, and those of document 02, E3 and E5, as one list of statements
--- about the definitions.
+-- The bench cases of document 01 that are marked P, and those of document 02, E3, E5 and E6, as one list of
+-- statements about the definitions.
 use Prim.Native.Nat.{ℕ, _+_, _-_, _*_, _^_}
 use mathlib.Core.Bool.{false}
 use mathlib.Core.List.{List, [], _∷_}
@@ -19,10 +19,12 @@ use Rattle.register.specs.Register.{Opening, Call, presents}
 use Rattle.register.specs.Choosing.{latenessOf}
 use Rattle.table.specs.declared.Table.{Table}
 use Rattle.table.specs.declared.Place.{Place}
+use Rattle.table.specs.declared.Answered.{Answered}
 use Rattle.table.specs.Members.{placeAt}
 use Rattle.table.specs.Calls.{opened, withMember, answered}
 use Rattle.table.specs.Choose.{choiceOf}
 use Rattle.table.specs.History.{answersFrom, tableFrom}
+use Rattle.burst.specs.Burst.{burstAnswered, burstAnswersAfter}
 use Rattle.writer.specs.Messages.{reportMessage, settingsMessage}
 
 -- ---- the table and the reading of every case that states no other
@@ -317,11 +319,30 @@ E5Limit =
     × (firstAfter 4294967294 (Call.farewell 10 (originAt 6000)) ≡ placeWith ten 4294967295)
     × (firstAfter 4294967295 (Call.farewell 10 (originAt 6000)) ≡ placeWith ten 4294967295)
 
+-- P1, its twin, P2 and the twin again, in one burst into a new table, with a list of numbers 99
+abbrev pub burstReports : List Record
+burstReports = ten ∷ twinOf 42 ∷ twenty ∷ twinOf 42 ∷ []
+
+abbrev pub burstWith : List Record → ℕ → Answered
+burstWith reports length = burstAnswered (opened opening .table) reports reading (replicate length 99)
+
+-- document 02, E6: two twins in one burst, of which the first holds the number; neither refusal stops the rest, and the
+-- number behind the reports stays. A list of three numbers gets 24, and 65 reports 23, whatever the list
+abbrev pub E6Twins : Type 0
+E6Twins =
+    (burstAnswersAfter (opened opening .table) burstReports reading (replicate 5 99)
+    ≡ 0 ∷ 14 ∷ 0 ∷ 14 ∷ 99 ∷ [])
+    × (burstWith burstReports 5 .number ≡ 0)
+    × (placeAt (burstWith burstReports 5 .table) 0 ≡ placeWith ten 2)
+    × (placeAt (burstWith burstReports 5 .table) 1 ≡ placeWith twenty 0)
+    × (burstWith burstReports 3 ≡ record { number = 24; table = opened opening .table })
+    × (burstWith (replicate 65 ten) 3 ≡ record { number = 23; table = opened opening .table })
+
 -- all of them
 unfoldable pub papers : List (Type 0)
 papers =
     P1 ∷ P2 ∷ P3 ∷ P4 ∷ P5 ∷ P6 ∷ P7 ∷ P8 ∷ P9 ∷ P10 ∷ E3Wired ∷ E3Chosen ∷ E3AllOnes
-    ∷ E5Tallied ∷ E5Rejoined ∷ E5Limit ∷ []
+    ∷ E5Tallied ∷ E5Rejoined ∷ E5Limit ∷ E6Twins ∷ []
 
 -- every statement of a list is true
 unfoldable pub AllHold : List (Type 0) → Type 0
