@@ -18,7 +18,8 @@ use Rattle.table.specs.declared.Answered.{Answered}
 use Rattle.table.specs.Calls.{answered}
 use Rattle.table.specs.History.{answersFrom, tableFrom}
 use Rattle.table.specs.Numbers.{numbersInto}
-use Rattle.burst.specs.Burst.{reportCalls, burstLimit, burstChecks, burstChecked, burstAnswered, burstAnswersAfter}
+use Rattle.burst.specs.Burst.{reportCalls, burstLimit, burstChecks, burstChecked}
+use Rattle.burst.specs.Burst.{burstAnswered, burstAnswersAfter}
 use Rattle.burst.specs.Singles.{recordAt, afterSingles, singleNumber}
 
 pub length-calls : (at : Reading) (reports : List Record) → length (reportCalls at reports) ≡ length reports
@@ -43,7 +44,8 @@ module _ (t : Table) (reports : List Record) (at : Reading) where
 
   module _ (lent : List ℕ) where
     pub list-next :
-        (n : ℕ) → listAfter t reports at lent (suc n) ≡ set (listAfter t reports at lent n) n (singleNumber t reports at n)
+        (n : ℕ) →
+        listAfter t reports at lent (suc n) ≡ set (listAfter t reports at lent n) n (singleNumber t reports at n)
     unfolding listAfter
     list-next n = refl
 
@@ -65,7 +67,8 @@ module _ (at : Reading) where
       afterSingles t (x ∷ xs) at (suc n) ≡ afterSingles (first t x .table) xs at n
   unfolding afterSingles
   table-front t x xs zero = refl
-  table-front t x xs (suc n) = ap (λ (u : Table). answered u (Call.report (recordAt xs n) at) .table) (table-front t x xs n)
+  table-front t x xs (suc n) =
+      ap (λ (u : Table). answered u (Call.report (recordAt xs n) at) .table) (table-front t x xs n)
 
   pub number-front :
       (t : Table) (x : Record) (xs : List Record) (n : ℕ) →
@@ -154,7 +157,8 @@ burst-ends t reports at lent = go (eqb (burstChecks (length reports) (length len
         let none : burstChecks (length reports) (length lent) ≡ 0 = eqb-true _ 0 e in
         let enough : length reports ≤ length lent = list-enough (length reports) (length lent) none in
         rw e (
-          ap (λ (u : Table). record { number = burstChecks (length reports) (length lent); table = u }) (table-all at t reports),
+          ap (λ (u : Table). record { number = burstChecks (length reports) (length lent); table = u })
+              (table-all at t reports),
           list-all at t reports lent enough,
         )
     go false e = rw e (refl, refl)

@@ -1,5 +1,6 @@
--- Document 02, E6: a whole burst of reports at once. Each report is a call under the burst's one reading, in list order,
--- and its answer goes into a lent list, 0 for accepted. 23 and 24 come before any report is tried, and change nothing.
+-- Document 02, E6: a whole burst of reports at once. Each report is a call under the burst's one reading, in list
+-- order, and its answer goes into a lent list, 0 for accepted. 23 and 24 come before any report is tried, and change
+-- nothing.
 use Prim.Native.Nat.{ℕ}
 use mathlib.Core.Bool.{cond}
 use mathlib.Core.List.{List, [], _∷_}

@@ -1,5 +1,5 @@
--- Demand 3 of a burst: a burst that is taken is its reports as calls, one by one, in list order. From a reached table it
--- hands back a reached one, and what it puts into the lent list are the register's answers; so all that History and
+-- Demand 3 of a burst: a burst that is taken is its reports as calls, one by one, in list order. From a reached table
+-- it hands back a reached one, and what it puts into the lent list are the register's answers; so all that History and
 -- Letter say of a table that calls reach, they say of one that bursts leave.
 -- To be believed besides: `reportCalls` (Burst). Which bursts are taken, and that a refused one leaves the table as it
 -- was, so that it is reached by the calls before alone: see Singles.

@@ -49,7 +49,13 @@ papers-hold = (
                         (refl, refl, refl),
                         (
                           (refl, refl, refl),
-                          ((refl, refl), ((refl, refl, refl, refl, refl), ((refl, refl, refl, refl), ((refl, refl, refl, refl, refl, refl), tt)))),
+                          (
+                            (refl, refl),
+                            (
+                              (refl, refl, refl, refl, refl),
+                              ((refl, refl, refl, refl), ((refl, refl, refl, refl, refl, refl), tt)),
+                            ),
+                          ),
                         ),
                       ),
                     ),

@@ -11,8 +11,8 @@ use base.Fml.{Share, Fml, fsep}
 use prog.Wp.{Heap}
 use ghost.Atoms.{Atoms, sem}
 use denote.Steps.{owned}
-use types.Kit.{Given, Item, Goal, Seq, ‵, raw, _⊛_, _$_, _∵_, !, qed, move, drop, use1, use2, split, rewrite, assume, fsplit}
-use types.Kit.{fjoin, feqL, feqI, fpack, fpick, frame, done}
+use types.Kit.{Given, Item, Goal, Seq, ‵, raw, _⊛_, _$_, _∵_, !, qed, move, drop, use1, use2, split, rewrite}
+use types.Kit.{assume, fsplit, fjoin, feqL, feqI, fpack, fpick, frame, done}
 use types.Share.{arr-parts}
 use denote.Laws.{Is, shows}
 use denote.RattleType.{RattleType}
@@ -43,7 +43,9 @@ module _ {M : Type 1} (𝓤 : URA M) (H : Heap 𝓤) (A : Atoms 𝓤) (W : Given
       qed W (‵ (cellAt q (R .mir) vs b o) ∷ ‵ (R .own x vs) ∷ []) ∵
       fjoin ! $ fpack ! (List Val) (λ us. fsep (cellAt q (R .mir) us b o) (R .own x us)) vs $ done !
 
-module _ {M : Type 1} {𝓤 : URA M} {H : Heap 𝓤} {A : Atoms 𝓤} {K : Type 0} {W : Given 𝓤 H A} {Γ : List (Item 𝓤)} {G : Goal 𝓤 H} where
+module _
+    {M : Type 1} {𝓤 : URA M} {H : Heap 𝓤} {A : Atoms 𝓤} {K : Type 0} {W : Given 𝓤 H A} {Γ : List (Item 𝓤)}
+    {G : Goal 𝓤 H} where
   pub opened :
       K → (R : RattleType) (q : Share) (x : R .Denot) (b o : ℕ) →
       ((vs : List Val) → Seq K W (‵ (cellAt q (R .mir) vs b o) ∷ ‵ (R .own x vs) ∷ Γ) G) →
@@ -96,7 +98,8 @@ module _
       (LL.tells Mb.the-type Mb′.the-laws) q (t .members) i nobody b (o + 24) (within len) (λ _.
       rewrite ! 0 (λ (p : ℕ). ‵ (cellAt q (Mb.the-row .mir) (memberVal there ∷ []) b p)) (place-is 64 (o + 24) i) refl $
       frame ! $ drop ! $ assume ! (‵ Stored) $
-      rewrite ! 0 (λ (p : ℕ). ‵ (cellAt q (Mb.the-row .mir) (memberVal m ∷ []) b p)) (sym (place-is 64 (o + 24) i)) refl $
+      rewrite ! 0 (λ (p : ℕ). ‵ (cellAt q (Mb.the-row .mir) (memberVal m ∷ []) b p))
+      (sym (place-is 64 (o + 24) i)) refl $
       owned ! Mb.the-row (Is Mb.the-row) (LL.makes Mb.the-type Mb′.the-plain 𝓤 H A) m _ is $ move ! (1 ∷ 0 ∷ []) $
       elem-put ! Mb.the-row q (t .members) i m (memberVal m ∷ []) b (o + 24) (within len) $
       feqI ! ℕ (length (set (t .members) i m)) 64 (length-set (t .members) i m ∙ len) $ fjoin ! $

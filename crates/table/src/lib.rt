@@ -143,8 +143,8 @@ impl Table {
         next
     }
 
-    // What a report does, at the sender's reading. The search is a loop of its own here: handed on by value, the members
-    // would be copied.
+    // What a report does, at the sender's reading. The search is a loop of its own here: handed on by value, the
+    // members would be copied.
     pub fn filing(self, x: Record, at: Reading) -> Filing
         ensures { λ r. ⌜ (r ≡ filingOf self x at) × (r .place < 64) ⌝ }
     {

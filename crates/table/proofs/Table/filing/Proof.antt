@@ -1,5 +1,5 @@
--- The places passed and the place among the rest make up the place, as in `search::place_of`, over a field of the table.
--- The measure is how many are left.
+-- The places passed and the place among the rest make up the place, as in `search::place_of`, over a field of the
+-- table. The measure is how many are left.
 use Prim.Native.Nat.{ℕ, _+_, _-_, _/_, _≤_}
 use mathlib.Core.Path.{_≡_, sym, ap, _∙_}
 use lib.ListN.{length, length-map, drop}
@@ -17,7 +17,8 @@ use Rattle.table.proofs.Table.filing.Tie as tie
 
 abbrev Inv-loop : tie.InvT-loop
 Inv-loop x at self word₀ i₀ word i =
-    (i ≤ 64) × (i + placeOf (x .source) word (drop i (recordsIn self)) ≡ placeOf (x .source) (self .held) (recordsIn self))
+    (i ≤ 64)
+    × (i + placeOf (x .source) word (drop i (recordsIn self)) ≡ placeOf (x .source) (self .held) (recordsIn self))
 
 abbrev μ-loop : tie.MeasureT-loop
 μ-loop x at self word₀ i₀ word i = 64 - i
