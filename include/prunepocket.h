@@ -226,8 +226,8 @@ struct prunepocket_answer prunepocket_write_sync_group(uint32_t group,
  * For each item that a reader gives, the host files a report, or calls
  * prunepocket_farewell with a farewell's source, under the origin that the
  * datagram came from; prunepocket_take_datagram does so for all items of a
- * datagram at once. What is chosen goes to the members by
- * prunepocket_write_settings.
+ * datagram at once, and prunepocket_report_burst takes the reports of many
+ * datagrams. What is chosen goes to the members by prunepocket_write_settings.
  *
  * No call writes to the table that it was passed: it gets a copy. Nothing is
  * kept between calls, so two threads may use two tables at a time. Where
@@ -238,7 +238,8 @@ struct prunepocket_answer prunepocket_write_sync_group(uint32_t group,
  * gets a defined answer from every call, though not that of the reports,
  * farewells and sweeps before.
  */
-#define PRUNEPOCKET_PLACES 64 /* places of a table: as many members as there can be */
+#define PRUNEPOCKET_PLACES 64      /* places of a table: as many members as there can be */
+#define PRUNEPOCKET_BURST_LIMIT 64 /* the most reports of a burst */
 
 /*
  * Where a datagram came from. Two origins are equal when all eighteen bytes of
@@ -324,9 +325,9 @@ struct prunepocket_table {
 };
 
 /*
- * What opening, a report, a farewell and a sweep answer. The table afterwards is
- * after 12 none, after 14 the one passed but for the holder's tally, and after
- * any other refusal equal to the one passed.
+ * What opening, a report, a burst, a farewell and a sweep answer. The table
+ * afterwards is after 12 none, after 14 the one passed but for the holder's tally,
+ * and after any other refusal equal to the one passed.
  */
 struct prunepocket_answered {
     uint64_t number;                /* The refusal's number, or 0 that there is none. */
@@ -392,11 +393,11 @@ struct prunepocket_answered prunepocket_report(struct prunepocket_table table,
  * The number that each report gets, 0 or 13 to 18, goes to its place in answers;
  * numbers of the list behind the reports are as before. Each 14 among them has
  * raised the holder's tally. The burst's own number is 0 whatever its reports got.
- * 64 numbers are always enough. A burst without reports is taken, whatever the
- * list.
+ * PRUNEPOCKET_BURST_LIMIT numbers are always enough. A burst without reports is
+ * taken, whatever the list.
  * Refusals, in this order, before any report is tried: 23 where reports_length is
- * above 64; 24 where answers_length is below reports_length. Table, tallies
- * included, and list are then as before.
+ * above PRUNEPOCKET_BURST_LIMIT; 24 where answers_length is below reports_length.
+ * Table, tallies included, and list are then as before.
  */
 struct prunepocket_answered prunepocket_report_burst(struct prunepocket_table table,
                                                      const struct prunepocket_record *reports,
