@@ -19,8 +19,8 @@ use Rattle.table.specs.Members.{openingOf, placeIn}
 use Rattle.table.specs.Calls.{isMember}
 
 -- the member at a number's place behind a report that got a number: 14 is tallied, and any other refusal leaves it
-abbrev pub renewedBy : Member → Record → ℕ → Member
-renewedBy there x number =
+abbrev pub memberAfter : Member → Record → ℕ → Member
+memberAfter there x number =
     cond (eqb number otherOrigin) (record { «record» = there .«record»; tally = raised (there .tally) })
     (cond (eqb number 0) (record { «record» = x; tally = there .tally }) there)
 
@@ -36,7 +36,7 @@ knownNumber o there x at = reportChecks o x at (isOther there x) false
 abbrev pub knownFiling : Opening → ℕ → ℕ → Member → Record → Reading → Filing
 knownFiling o held place there x at =
     let number = knownNumber o there x at in
-    record { number = number; place = place; held = held; member = renewedBy there x number }
+    record { number = number; place = place; held = held; member = memberAfter there x number }
 
 -- ---- a number without a member
 

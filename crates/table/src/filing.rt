@@ -11,7 +11,7 @@ use register::Reading;
 use register::Record;
 ghost use Prim.Native.Nat.{_<_};
 ghost use mathlib.Core.Path.{_≡_};
-ghost use Rattle.table.specs.Filing.{renewedBy, knownFiling, newFiling};
+ghost use Rattle.table.specs.Filing.{memberAfter, knownFiling, newFiling};
 
 // A report's number; the place and the member that stands there afterwards, which is the one from before where the
 // report changes nothing; and the word of places held.
@@ -23,8 +23,8 @@ pub struct Filing {
 }
 
 // The member at a number's place behind a report that got this number: 14 is tallied there.
-fn renewed(there: Member, x: Record, number: u64) -> Member
-    ensures { λ r. ⌜ r ≡ renewedBy there x number ⌝ }
+fn member_after(there: Member, x: Record, number: u64) -> Member
+    ensures { λ r. ⌜ r ≡ memberAfter there x number ⌝ }
 {
     if number == OTHER_ORIGIN {
         let mut tallied = there;
@@ -59,7 +59,7 @@ pub(crate) fn known_filing(
         number,
         place,
         held,
-        member: renewed(there, x, number),
+        member: member_after(there, x, number),
     }
 }
 

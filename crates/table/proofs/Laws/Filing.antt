@@ -23,7 +23,7 @@ use Rattle.table.specs.declared.Answered.{Answered}
 use Rattle.table.specs.declared.filing.Filing.{Filing}
 use Rattle.table.specs.Members.{openingOf, placeIn}
 use Rattle.table.specs.Calls.{isMember, numberOf, answered}
-use Rattle.table.specs.Filing.{renewedBy, isOther, knownNumber, knownFiling, isFull, newNumber, newFiling}
+use Rattle.table.specs.Filing.{memberAfter, isOther, knownNumber, knownFiling, isFull, newNumber, newFiling}
 use Rattle.table.specs.Filing.{filingOf, withFiling}
 use Rattle.table.proofs.Laws.Members.{set-same}
 use Rattle.table.proofs.Laws.Cases.{call-refused, call-accepted, report-elsewhere, report-number-there}
@@ -32,16 +32,16 @@ use Rattle.table.proofs.Laws.Cases.{report-tallied, filed-again, filed-
 -- ---- the member at a number's place
 
 module _ (there : Member) (x : Record) (number : ℕ) where
-  pub renewed-tallied :
+  pub member-tallied :
       (tally : ℕ) → number ≡ otherOrigin → tally ≡ raised (there .tally) →
-      record { «record» = there .«record»; tally = tally } ≡ renewedBy there x number
-  renewed-tallied tally e f = rw (e, f) refl
+      record { «record» = there .«record»; tally = tally } ≡ memberAfter there x number
+  member-tallied tally e f = rw (e, f) refl
 
-  pub renewed-kept : (number ≡ otherOrigin → ⊥) → (number ≡ 0 → ⊥) → there ≡ renewedBy there x number
-  renewed-kept h k = rw (ne-eqb number otherOrigin h, ne-eqb number 0 k) refl
+  pub member-kept : (number ≡ otherOrigin → ⊥) → (number ≡ 0 → ⊥) → there ≡ memberAfter there x number
+  member-kept h k = rw (ne-eqb number otherOrigin h, ne-eqb number 0 k) refl
 
-  pub renewed-filed : number ≡ 0 → record { «record» = x; tally = there .tally } ≡ renewedBy there x number
-  renewed-filed e = rw e refl
+  pub member-filed : number ≡ 0 → record { «record» = x; tally = there .tally } ≡ memberAfter there x number
+  member-filed e = rw e refl
 
 -- ---- a filing
 
@@ -49,7 +49,7 @@ module _ (o : Opening) (held : ℕ) (x : Record) (at : Reading) (number : ℕ) w
   pub known-filed :
       (place : ℕ) (there member : Member) (elsewhere : Bool) → elsewhere ≡ isOther there x →
       number ≡ reportChecks o x at elsewhere false →
-      member ≡ renewedBy there x number →
+      member ≡ memberAfter there x number →
       record { number = number; place = place; held = held; member = member } ≡ knownFiling o held place there x at
   known-filed place there member elsewhere e f g =
       let n : number ≡ knownNumber o there x at = rw e at f in
