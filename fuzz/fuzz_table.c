@@ -25,7 +25,7 @@ static const char *const call_names[CALLS] = {"open",   "report",        "farewe
                                               "choose", "take_datagram", "report_burst"};
 
 /* The longest burst that is tried, whose last eight bits say 64. The list is at most one longer, among more numbers. */
-enum { MOST_REPORTS = 320, AROUND_LIST = 512 };
+enum { LONGEST_BURST = 320, AROUND_LIST = 512 };
 
 /* What is told apart at a step of 0: the low 16 bits of received, which other steps clear. */
 enum low_bits { LOW_0, LOW_1, LOW_65535, LOW_OTHER, ALL_ONES, LOW_BITS };
@@ -240,7 +240,7 @@ int LLVMFuzzerInitialize(int *argc, char ***argv)
 {
     (void)argc;
     (void)argv;
-    report_memory = lend(MOST_REPORTS * sizeof(struct prunepocket_record));
+    report_memory = lend(LONGEST_BURST * sizeof(struct prunepocket_record));
     list_memory = lend(AROUND_LIST * sizeof(uint64_t));
     atexit(print_met);
     return 0;
@@ -726,7 +726,7 @@ static void datagram_both(struct sides *sides, const struct arrival *arrival)
 /* ---- Bursts ---- */
 
 struct burst {
-    struct row rows[MOST_REPORTS];
+    struct row rows[LONGEST_BURST];
     size_t count;
     size_t room; /* how many numbers the list has */
     struct clocks now;
@@ -814,7 +814,7 @@ static void call_burst(const struct sides *sides, const struct burst *burst, boo
         (struct prunepocket_record *)(at_end ? report_memory.end - bytes : report_memory.start);
     uint64_t *numbers = (uint64_t *)(at_end ? list_memory.end - sizeof taken->numbers : list_memory.start);
     struct prunepocket_reading reading = {.ntp = burst->now.n, .rtp = burst->now.r};
-    static struct prunepocket_record copy[MOST_REPORTS];
+    static struct prunepocket_record copy[LONGEST_BURST];
 
     for (size_t i = 0; i < burst->count; i++)
         copy[i] = to_record(&burst->rows[i]);
@@ -1175,7 +1175,7 @@ static size_t burst_length(struct script *script)
 
     if (said < 192)
         return said % 64;
-    return around == 67 ? MOST_REPORTS : around;
+    return around == 67 ? LONGEST_BURST : around;
 }
 
 /* The length of the list: mostly that of the reports, or around it. */

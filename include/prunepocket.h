@@ -47,7 +47,7 @@ struct prunepocket_answer {
 #define PRUNEPOCKET_BAD_BLOCK_LENGTH 7 /* block type 12 with block length other than 7; the block's place */
 /* There is no number 8. */
 #define PRUNEPOCKET_NO_SUCH_ITEM 9  /* item index not below the item count, or the item has no such field; place 0 */
-#define PRUNEPOCKET_SHORT_BUFFER 10 /* lent array or buffer too short; place 0 */
+#define PRUNEPOCKET_SHORT_BUFFER 10 /* lent array or buffer too short, but for the list of a burst; place 0 */
 #define PRUNEPOCKET_OUT_OF_RANGE 11 /* a field to be written is out of range; place 0 */
 /* Numbers 12 to 20 are of the member table, and have no place. */
 #define PRUNEPOCKET_BAD_OPENING 12     /* group is 0 or 4294967295, or rate is outside of 1 to 192,000: no table */
@@ -280,8 +280,8 @@ struct prunepocket_record {
 /*
  * A member: the record that it stands on, and its tally. The tally says how many
  * times the member's source number was refused with 14, by prunepocket_report,
- * prunepocket_farewell or in a datagram, since the member last joined, and stops
- * at PRUNEPOCKET_TALLY_LIMIT. Above 0, calls under the number came from another
+ * prunepocket_farewell, in a burst or in a datagram, since the member last joined,
+ * and stops at PRUNEPOCKET_TALLY_LIMIT. Above 0, calls under the number came from another
  * address or port while the member held it: of a twin, or of the member's own
  * unit after it moved.
  * The tally starts at 0 where the member joins, and goes when the member goes, by

@@ -14,5 +14,5 @@ pub use messages::{
 };
 pub use structs::{
     layout, Answer, Answered, DatagramAnswered, Followed, Member, Origin, Place, Reading, Record,
-    ReportFields, Table, Target, PLACES, TALLY_LIMIT,
+    ReportFields, Table, Target, BURST_LIMIT, PLACES, TALLY_LIMIT,
 };

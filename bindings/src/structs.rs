@@ -6,6 +6,9 @@ use std::mem::{align_of, offset_of, size_of};
 /// Places in a table.
 pub const PLACES: usize = 64;
 
+/// The most reports of a burst.
+pub const BURST_LIMIT: usize = 64;
+
 /// Where a member's tally stops.
 pub const TALLY_LIMIT: u32 = 4_294_967_295;
 

@@ -7,10 +7,11 @@
 
 #define LIMIT PRUNEPOCKET_TALLY_LIMIT
 
-#define MOST_REPORTS 64
+#define BURST_LIMIT 64
 
 /* A full burst goes through a whole table. */
-_Static_assert(MOST_REPORTS == PRUNEPOCKET_PLACES, "64 reports and 64 places");
+_Static_assert(BURST_LIMIT == PRUNEPOCKET_PLACES, "64 reports and 64 places");
+_Static_assert(BURST_LIMIT == PRUNEPOCKET_BURST_LIMIT, "64 reports");
 
 /* ---- Lent memory ----------------------------------------------------------------------------- */
 
@@ -177,7 +178,7 @@ static table_t one_by_one(table_t table, const struct burst *burst, uint64_t *nu
 }
 
 /* Table, target and numbers are those of the single reports. The numbers are handed to the caller. */
-static table_t check_as_single(table_t table, struct burst burst, uint64_t numbers[MOST_REPORTS])
+static table_t check_as_single(table_t table, struct burst burst, uint64_t numbers[BURST_LIMIT])
 {
     table_t expected = one_by_one(table, &burst, numbers);
     table_t after = burst_taken(table, burst, numbers);
@@ -298,9 +299,9 @@ static void put_mixed(record_t *reports, size_t count)
 static void check_lengths(table_t table, const record_t *reports, size_t count, size_t room)
 {
     struct burst burst = {reports, count, now, room};
-    uint64_t numbers[MOST_REPORTS];
+    uint64_t numbers[BURST_LIMIT];
 
-    if (count > MOST_REPORTS)
+    if (count > BURST_LIMIT)
         burst_refused(table, burst, PRUNEPOCKET_LONG_BURST);
     else if (room < count)
         burst_refused(table, burst, PRUNEPOCKET_SHORT_ANSWERS);
@@ -333,11 +334,11 @@ static void test_lengths(void)
 /* Every length of a burst, with every length of a list that is shorter, and with one as long. */
 static void test_every_length(void)
 {
-    record_t reports[MOST_REPORTS];
+    record_t reports[BURST_LIMIT];
 
     CASE("every length of burst and list");
     put_mixed(reports, LENGTH(reports));
-    for (size_t count = 0; count <= MOST_REPORTS; count++) {
+    for (size_t count = 0; count <= BURST_LIMIT; count++) {
         for (size_t room = 0; room <= count; room++)
             check_lengths(states[2], reports, count, room);
     }
@@ -365,7 +366,7 @@ static void test_long_bursts(void)
 static void test_long_lists(void)
 {
     static const size_t rooms[] = {65, 127, 128, 255, 256, 257, 65535, 65536, 65537};
-    record_t reports[MOST_REPORTS];
+    record_t reports[BURST_LIMIT];
 
     CASE("lists that are longer than any burst");
     put_mixed(reports, LENGTH(reports));
@@ -469,7 +470,7 @@ static void test_twins_of_members(void)
 static void test_refused_twins(void)
 {
     static const uint64_t numbers[] = {PRUNEPOCKET_OTHER_ORIGIN};
-    record_t reports[MOST_REPORTS + 1];
+    record_t reports[BURST_LIMIT + 1];
     table_t table = with_two(record_20(), record_10());
 
     CASE("a refused burst of a twin raises no tally");
@@ -566,17 +567,17 @@ static void test_all_refusals(void)
 /* As many as there can be, into a full table: nothing is changed but the tally of source 10. */
 static void check_all_refused(uint64_t number)
 {
-    record_t reports[MOST_REPORTS];
-    uint64_t numbers[MOST_REPORTS];
+    record_t reports[BURST_LIMIT];
+    uint64_t numbers[BURST_LIMIT];
     table_t table = full_table();
     table_t expected;
 
     table.members[17].record = record_10();
     expected = table;
-    expected.members[17].tally = number == PRUNEPOCKET_OTHER_ORIGIN ? MOST_REPORTS : 0;
-    put_alike(reports, MOST_REPORTS,
+    expected.members[17].tally = number == PRUNEPOCKET_OTHER_ORIGIN ? BURST_LIMIT : 0;
+    put_alike(reports, BURST_LIMIT,
               number == PRUNEPOCKET_NO_ROOM ? arrival(200) : refused_with(number));
-    put_numbers(numbers, MOST_REPORTS, number);
+    put_numbers(numbers, BURST_LIMIT, number);
     table = TAKEN(table, reports, numbers);
     check_true("the table", same_table(&table, &expected));
 }
@@ -592,13 +593,13 @@ static void test_all_refused(void)
 
 static void test_filling(void)
 {
-    record_t reports[MOST_REPORTS];
-    uint64_t numbers[MOST_REPORTS] = {0};
+    record_t reports[BURST_LIMIT];
+    uint64_t numbers[BURST_LIMIT] = {0};
     table_t full = full_table();
     table_t table;
 
     CASE("a burst of 64 fills an empty table");
-    put_arrivals(reports, MOST_REPORTS, 100);
+    put_arrivals(reports, BURST_LIMIT, 100);
     table = TAKEN(opened(), reports, numbers);
     check_true("as the single reports", same_table(&table, &full));
     check_places(&table, &full);
@@ -609,8 +610,8 @@ static void test_filling(void)
     check_true("the table as before", same_table(&table, &full));
 
     CASE("64 new numbers where all places are held");
-    put_arrivals(reports, MOST_REPORTS, 200);
-    put_numbers(numbers, MOST_REPORTS, PRUNEPOCKET_NO_ROOM);
+    put_arrivals(reports, BURST_LIMIT, 200);
+    put_numbers(numbers, BURST_LIMIT, PRUNEPOCKET_NO_ROOM);
     table = TAKEN(full, reports, numbers);
     check_true("the table as before", same_table(&table, &full));
 }
@@ -618,13 +619,13 @@ static void test_filling(void)
 /* Places go by list order, and not by number. */
 static void test_falling_numbers(void)
 {
-    record_t reports[MOST_REPORTS];
-    uint64_t numbers[MOST_REPORTS] = {0};
+    record_t reports[BURST_LIMIT];
+    uint64_t numbers[BURST_LIMIT] = {0};
     table_t expected = table_of(UINT64_MAX);
     table_t table;
 
     CASE("a burst of 64 with the highest number first");
-    for (uint32_t i = 0; i < MOST_REPORTS; i++) {
+    for (uint32_t i = 0; i < BURST_LIMIT; i++) {
         reports[i] = arrival(163 - i);
         expected.members[i].record = reports[i];
     }
@@ -636,13 +637,13 @@ static void test_falling_numbers(void)
 /* 64 new numbers: the first take the free places, lowest first, and the others get 18. */
 static void check_filled(const table_t *full, uint64_t word)
 {
-    record_t reports[MOST_REPORTS];
-    uint64_t numbers[MOST_REPORTS];
+    record_t reports[BURST_LIMIT];
+    uint64_t numbers[BURST_LIMIT];
     table_t table = left_by_farewells(*full, word);
     table_t expected = table_of(word);
 
-    put_arrivals(reports, MOST_REPORTS, 200);
-    for (size_t i = 0; i < MOST_REPORTS; i++) {
+    put_arrivals(reports, BURST_LIMIT, 200);
+    for (size_t i = 0; i < BURST_LIMIT; i++) {
         size_t place = lowest_free(expected.held);
 
         numbers[i] = place < PRUNEPOCKET_PLACES ? PRUNEPOCKET_ACCEPTED : PRUNEPOCKET_NO_ROOM;
@@ -672,15 +673,15 @@ static void test_free_places(void)
 /* Every so many reports, the holder's own; the others are its twin's. From one tally to another. */
 static void check_one_number(size_t own_every, uint32_t from, uint32_t to)
 {
-    record_t reports[MOST_REPORTS];
-    uint64_t numbers[MOST_REPORTS];
+    record_t reports[BURST_LIMIT];
+    uint64_t numbers[BURST_LIMIT];
     table_t table = with_two(record_20(), record_10());
     table_t expected;
 
     table.members[1].tally = from;
     expected = table;
     expected.members[1].tally = to;
-    for (size_t i = 0; i < MOST_REPORTS; i++) {
+    for (size_t i = 0; i < BURST_LIMIT; i++) {
         int is_own = i % own_every == 0;
 
         reports[i] = is_own ? marked(record_10(), (uint8_t)i) : twin_at(unit(11));
@@ -714,12 +715,12 @@ static void test_one_number(void)
 
 static void test_new_number(void)
 {
-    record_t reports[MOST_REPORTS];
-    uint64_t numbers[MOST_REPORTS];
+    record_t reports[BURST_LIMIT];
+    uint64_t numbers[BURST_LIMIT];
     table_t table;
 
     CASE("64 origins report one new number: the first holds it");
-    for (uint8_t i = 0; i < MOST_REPORTS; i++) {
+    for (uint8_t i = 0; i < BURST_LIMIT; i++) {
         reports[i] = from_origin(record_10(), unit(100 + i));
         numbers[i] = i == 0 ? PRUNEPOCKET_ACCEPTED : PRUNEPOCKET_OTHER_ORIGIN;
     }
@@ -834,9 +835,9 @@ static size_t random_length(void)
     case 0:
         return next_random() % 3;
     case 1:
-        return MOST_REPORTS - next_random() % 2;
+        return BURST_LIMIT - next_random() % 2;
     default:
-        return next_random() % (MOST_REPORTS + 1);
+        return next_random() % (BURST_LIMIT + 1);
     }
 }
 
@@ -876,7 +877,7 @@ static table_t random_burst(table_t table, const record_t *reports, size_t count
                             reading_t reading)
 {
     struct burst burst = {reports, count, reading, count + next_random() % 3};
-    uint64_t numbers[MOST_REPORTS];
+    uint64_t numbers[BURST_LIMIT];
     table_t after = check_as_single(table, burst, numbers);
 
     count_met(&table, &burst, numbers);
@@ -886,7 +887,7 @@ static table_t random_burst(table_t table, const record_t *reports, size_t count
 /* The table after a burst of any length. */
 static table_t any_burst(table_t table, int few)
 {
-    record_t reports[MOST_REPORTS];
+    record_t reports[BURST_LIMIT];
     size_t count = random_length();
 
     for (size_t i = 0; i < count; i++)
@@ -905,7 +906,7 @@ static void test_random_bursts(void)
 /* One report more than a burst may have. They share their times, so that one reading suits them. */
 static void put_random(record_t *reports, const table_t *table, int few)
 {
-    for (size_t i = 0; i <= MOST_REPORTS; i++) {
+    for (size_t i = 0; i <= BURST_LIMIT; i++) {
         reports[i] = random_record(table, few);
         if (next_random() % 4 != 0)
             reports[i].report = reports[0].report;
@@ -915,7 +916,7 @@ static void put_random(record_t *reports, const table_t *table, int few)
 /* Tables that C has written on: also numbers that are held twice, and any group and rate. */
 static void test_random_tables(void)
 {
-    record_t reports[MOST_REPORTS + 1];
+    record_t reports[BURST_LIMIT + 1];
 
     CASE("bursts into tables of random bytes, as the single reports");
     for (int i = 0; i < RANDOM_BURSTS; i++) {
@@ -928,7 +929,7 @@ static void test_random_tables(void)
         reading = random_reading(&reports[0], few);
         random_burst(table, reports, count, reading);
         burst_refused(table, (struct burst){reports, count + 1, reading, count},
-                      count < MOST_REPORTS ? PRUNEPOCKET_SHORT_ANSWERS : PRUNEPOCKET_LONG_BURST);
+                      count < BURST_LIMIT ? PRUNEPOCKET_SHORT_ANSWERS : PRUNEPOCKET_LONG_BURST);
     }
 }
 

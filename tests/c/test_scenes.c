@@ -12,7 +12,7 @@
 #define MOST_CALLS 512
 
 /* Reports of a burst: more than it may have, for those that are refused. */
-#define MOST_REPORTS 1000
+#define LONGEST_BURST 1000
 
 /* Characters of a line of the text. */
 #define MOST_TEXT 1024
@@ -49,9 +49,9 @@ static struct {
     size_t wanted;
     size_t count;
     size_t length; /* of the answer list */
-    record_t records[MOST_REPORTS];
+    record_t records[LONGEST_BURST];
     size_t step_count;
-    struct burst_step steps[MOST_REPORTS];
+    struct burst_step steps[LONGEST_BURST];
 } burst;
 
 static void not_understood(const char *word)
@@ -406,7 +406,7 @@ static void call_burst(void)
 /* The reports from the first on are those of the step under way. */
 static void gather_step(size_t first)
 {
-    if (burst.step_count == MOST_REPORTS)
+    if (burst.step_count == LONGEST_BURST)
         not_understood("so many steps of a burst");
     note_step(&burst.steps[burst.step_count++], first);
     if (!is_gathering())
@@ -479,7 +479,7 @@ static void step_report(void)
 /* A refused burst has no steps: none of its reports may be tried. */
 static void step_burst(void)
 {
-    burst.wanted = number_before(asked[0], '\0', MOST_REPORTS);
+    burst.wanted = number_before(asked[0], '\0', LONGEST_BURST);
     burst.length = number(asked[1]);
     burst.count = 0;
     burst.step_count = 0;

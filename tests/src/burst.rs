@@ -7,7 +7,7 @@
 use crate::members::{Call, Reading, Record};
 
 /// The most reports of a burst.
-pub const MOST_REPORTS: usize = 64;
+pub const BURST_LIMIT: usize = 64;
 
 #[derive(Clone, Copy, Debug, PartialEq, Eq)]
 pub enum Fault {
@@ -87,9 +87,9 @@ impl<S: Clone> Taker<'_, S> {
     /// order.
     fn refusal(&self, reports: usize, length: usize) -> Option<u64> {
         let most = match self.fault {
-            Some(Fault::LimitRefused) => MOST_REPORTS - 1,
-            Some(Fault::LongTaken) => MOST_REPORTS + 1,
-            _ => MOST_REPORTS,
+            Some(Fault::LimitRefused) => BURST_LIMIT - 1,
+            Some(Fault::LongTaken) => BURST_LIMIT + 1,
+            _ => BURST_LIMIT,
         };
         let needed = match self.fault {
             Some(Fault::ExactListRefused) => reports + 1,

@@ -1,7 +1,7 @@
 //! Bursts for a history: as many reports and as long lists as stand at the limits
 //! and next to them, and reports of one number from several origins.
 
-use crate::burst::MOST_REPORTS;
+use crate::burst::BURST_LIMIT;
 use crate::generator::Rng;
 use crate::histories::World;
 use crate::members::{Burst, Origin, Record};
@@ -24,7 +24,7 @@ enum Senders {
 
 impl Senders {
     fn any(rng: &mut Rng) -> Self {
-        let first = rng.below(MOST_REPORTS);
+        let first = rng.below(BURST_LIMIT);
         match rng.below(6) {
             0..=1 => Senders::InTurn(first),
             2 => Senders::Few(first, rng.between(1, 3)),
@@ -96,12 +96,12 @@ fn report_count(rng: &mut Rng) -> usize {
     match rng.below(20) {
         0 | 1 => 0,
         2 => 1,
-        3 | 4 => MOST_REPORTS - 1,
-        5..=9 => MOST_REPORTS,
-        10 => MOST_REPORTS + 1,
+        3 | 4 => BURST_LIMIT - 1,
+        5..=9 => BURST_LIMIT,
+        10 => BURST_LIMIT + 1,
         11 => rng.pick(&MANY),
         12..=14 => rng.between(2, 12),
-        _ => rng.between(2, MOST_REPORTS - 2),
+        _ => rng.between(2, BURST_LIMIT - 2),
     }
 }
 
@@ -114,8 +114,8 @@ fn list_length(rng: &mut Rng, reports: usize) -> usize {
         3 => rng.below(reports + 1),
         4..=9 => reports,
         10..=12 => reports + 1,
-        13 | 14 => MOST_REPORTS,
-        15 => MOST_REPORTS + 1,
+        13 | 14 => BURST_LIMIT,
+        15 => BURST_LIMIT + 1,
         _ => reports + rng.pick(&[2, 9, 40, 192]),
     }
 }

@@ -2,7 +2,7 @@
 //! twins, readings that jump, wrap and repeat, and times at and next to every
 //! limit.
 
-use crate::burst::MOST_REPORTS;
+use crate::burst::BURST_LIMIT;
 use crate::bursts::{burst, burst_in_turn};
 use crate::generator::Rng;
 use crate::members::{Burst, Call, Opening, Origin, Reading, Record, ReportFields};
@@ -220,7 +220,7 @@ impl World {
         let mut steps = Vec::new();
         let mut done = 0;
         if filled > 0 && rng.chance(30) {
-            done = filled.min(MOST_REPORTS);
+            done = filled.min(BURST_LIMIT);
             steps.push(Step::Burst(burst_in_turn(rng, self, done)));
         } else if rng.chance(8) {
             steps.push(Step::Burst(burst(rng, self)));

@@ -2,7 +2,7 @@
 //! the list up to a few above 64, lengths that wrap, and twins in one burst.
 
 use prunepocket_tests::archive;
-use prunepocket_tests::burst::MOST_REPORTS;
+use prunepocket_tests::burst::BURST_LIMIT;
 use prunepocket_tests::compare_burst::{check_burst, check_single_calls, Taken};
 use prunepocket_tests::members::{Burst, Record};
 use prunepocket_tests::plain_reports::{reading, record, OPENING};
@@ -11,7 +11,7 @@ use prunepocket_tests::register::Register;
 const HEADER: &str = include_str!("../../include/prunepocket.h");
 
 /// The most reports, and the longest list, that are tried with all of the others.
-const LONGEST: usize = MOST_REPORTS + 4;
+const LONGEST: usize = BURST_LIMIT + 4;
 
 /// Numbers of reports that are at most 64 where they wrap at 2^8 or 2^16.
 const WRAPPING: [usize; 6] = [256, 257, 320, 65_536, 65_537, 65_600];
@@ -45,7 +45,7 @@ fn taken(burst: &Burst) -> Taken {
 
 #[test]
 fn header_has_these_numbers() {
-    for define in ["LONG_BURST 23 ", "SHORT_ANSWERS 24 ", "PLACES 64 "] {
+    for define in ["LONG_BURST 23 ", "SHORT_ANSWERS 24 ", "BURST_LIMIT 64 "] {
         let define = format!("#define PRUNEPOCKET_{define}");
         assert!(HEADER.lines().any(|line| line.starts_with(&define)));
     }
@@ -57,7 +57,7 @@ fn every_number_of_reports_with_every_list() {
     let pairs = (0..=LONGEST).flat_map(|reports| (0..=LONGEST).map(move |list| (reports, list)));
     for (reports, length) in pairs {
         let taken = taken(&burst(told[..reports].to_vec(), length));
-        let expected = match (reports > MOST_REPORTS, length < reports) {
+        let expected = match (reports > BURST_LIMIT, length < reports) {
             (true, _) => 23,
             (false, true) => 24,
             (false, false) => 0,
@@ -76,7 +76,7 @@ fn every_number_of_reports_with_every_list() {
 fn more_reports_than_64_get_23_also_where_their_number_wraps() {
     for reports in WRAPPING {
         let told = vec![plain(1); reports];
-        for length in [0, 1, MOST_REPORTS, reports - 1, reports, reports + 1] {
+        for length in [0, 1, BURST_LIMIT, reports - 1, reports, reports + 1] {
             assert_eq!(taken(&burst(told.clone(), length)).number, 23);
         }
     }
@@ -85,7 +85,7 @@ fn more_reports_than_64_get_23_also_where_their_number_wraps() {
 #[test]
 fn a_long_list_is_long_enough_also_where_its_length_wraps() {
     for length in WRAPPING {
-        for reports in [0, 1, MOST_REPORTS - 1, MOST_REPORTS] {
+        for reports in [0, 1, BURST_LIMIT - 1, BURST_LIMIT] {
             let told = (0..reports).map(plain).collect();
             assert_eq!(taken(&burst(told, length)).number, 0);
         }
@@ -113,8 +113,8 @@ fn the_first_of_two_twins_takes_the_number() {
 
 #[test]
 fn each_report_has_its_own_origin() {
-    let told: Vec<Record> = (0..MOST_REPORTS).map(plain).collect();
-    let met = taken(&burst(told.clone(), MOST_REPORTS));
+    let told: Vec<Record> = (0..BURST_LIMIT).map(plain).collect();
+    let met = taken(&burst(told.clone(), BURST_LIMIT));
     for (place, told) in told.iter().enumerate() {
         assert_eq!(met.table.member_at(place).member.record, *told);
     }

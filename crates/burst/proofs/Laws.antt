@@ -22,10 +22,10 @@ use Rattle.burst.specs.Burst.{reportCalls, burstLimit, burstChecks, burs
 use Rattle.burst.specs.Burst.{burstAnswered, burstAnswersAfter}
 use Rattle.burst.specs.Singles.{recordAt, afterSingles, singleNumber}
 
-pub length-calls : (at : Reading) (reports : List Record) → length (reportCalls at reports) ≡ length reports
+pub length-report-calls : (at : Reading) (reports : List Record) → length (reportCalls at reports) ≡ length reports
 unfolding reportCalls
-length-calls at [] = refl
-length-calls at (x ∷ xs) = ap suc (length-calls at xs)
+length-report-calls at [] = refl
+length-report-calls at (x ∷ xs) = ap suc (length-report-calls at xs)
 
 -- ---- after n reports
 
@@ -58,7 +58,7 @@ module _ (t : Table) (reports : List Record) (at : Reading) where
 -- ---- after all of them
 
 module _ (at : Reading) where
-  -- the first report is made by itself
+  -- the first report, as a call by itself
   abbrev first : Table → Record → Answered
   first t x = answered t (Call.report x at)
 
@@ -104,14 +104,16 @@ module _ (at : Reading) where
 -- ---- the burst
 
 -- a list is long enough where the burst is taken
-list-enough : (reports many : ℕ) → burstChecks reports many ≡ 0 → reports ≤ many
+list-enough : (reports listLength : ℕ) → burstChecks reports listLength ≡ 0 → reports ≤ listLength
 unfolding burstChecks
-list-enough reports many e = go (ltb burstLimit reports) refl (ltb many reports) refl
+list-enough reports listLength e = go (ltb burstLimit reports) refl (ltb listLength reports) refl
   where
-    go : (p : Bool) → ltb burstLimit reports ≡ p → (q : Bool) → ltb many reports ≡ q → reports ≤ many
-    go true h q k = let wrong : burstChecks reports many ≡ longBurst = rw h refl in omega (arith, wrong, e)
-    go false h true k = let wrong : burstChecks reports many ≡ shortAnswers = rw (h, k) refl in omega (arith, wrong, e)
-    go false h false k = ltb-false many reports k
+    go : (p : Bool) → ltb burstLimit reports ≡ p → (q : Bool) → ltb listLength reports ≡ q → reports ≤ listLength
+    go true h q k = let wrong : burstChecks reports listLength ≡ longBurst = rw h refl in omega (arith, wrong, e)
+    go false h true k =
+        let wrong : burstChecks reports listLength ≡ shortAnswers = rw (h, k) refl in
+        omega (arith, wrong, e)
+    go false h false k = ltb-false listLength reports k
 
 -- how many reports are tried
 abbrev pub triedOf : List Record → List ℕ → ℕ

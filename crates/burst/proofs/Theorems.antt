@@ -24,7 +24,7 @@ use Rattle.table.proofs.Agreement.Theorem.{reached-further, reached-answers}
 use Rattle.burst.specs.Burst.{reportCalls, burstLimit, burstChecks, burstAnswered, burstAnswersAfter}
 use Rattle.burst.specs.Singles.{afterSingles, singleNumber, EveryBurst, EmptyBurst}
 use Rattle.burst.specs.Reaching.{EveryBurstReached}
-use Rattle.burst.proofs.Laws.{length-calls, number-front, table-all}
+use Rattle.burst.proofs.Laws.{length-report-calls, number-front, table-all}
 
 -- ---- the list, place by place
 
@@ -110,5 +110,5 @@ burst-reached o calls t ms here reports at ranges lent taken =
     rw (here .members-are, rows-after-all o [] calls) (answers-behind o calls more) in
     record {
       reached = rw none (reached-further o calls t ms more here ranges);
-      numbers = rw (none, behind, reached-answers o calls t ms more here, length-calls at reports) refl;
+      numbers = rw (none, behind, reached-answers o calls t ms more here, length-report-calls at reports) refl;
     }

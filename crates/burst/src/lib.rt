@@ -5,7 +5,7 @@ ghost use mathlib.Core.Path.{_≡_};
 ghost use Rattle.burst.specs.Burst.{burstChecked};
 
 // The most reports that a burst may have.
-const MOST_REPORTS: usize = 64;
+const BURST_LIMIT: usize = 64;
 
 // A burst's own number, 0 where it is taken, and how many of its reports are tried: all, or none.
 pub struct Checked {
@@ -17,7 +17,7 @@ pub struct Checked {
 pub fn check_burst(reports: usize, list_length: usize) -> Checked
     ensures { λ r. ⌜ r ≡ burstChecked reports «list_length» ⌝ }
 {
-    if MOST_REPORTS < reports {
+    if BURST_LIMIT < reports {
         return Checked {
             number: LONG_BURST,
             tried: 0,

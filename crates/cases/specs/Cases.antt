@@ -327,7 +327,7 @@ abbrev pub burstWith : List Record → ℕ → Answered
 burstWith reports length = burstAnswered (opened opening .table) reports reading (replicate length 99)
 
 -- document 02, E6: two twins in one burst, of which the first holds the number; neither refusal stops the rest, and the
--- number behind the reports stays. A list of three numbers gets 24, and 65 reports 23, whatever the list
+-- number behind the reports stays. A list of three numbers gets 24, and 65 reports with that list 23
 abbrev pub E6Twins : Type 0
 E6Twins =
     (burstAnswersAfter (opened opening .table) burstReports reading (replicate 5 99)

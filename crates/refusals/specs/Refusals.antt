@@ -1,5 +1,5 @@
--- The refusal numbers (document 01, "Refusal numbers"; from 21 on, document 02), each once for all definitions. The code
--- has them under the same names (src/lib.rt). There is no number 8.
+-- The refusal numbers (document 01, "Refusal numbers"; from 21 on, document 02), each once for all definitions. The
+-- code has them under the same names (src/lib.rt). There is no number 8.
 use Prim.Native.Nat.{ℕ}
 
 -- datagram length is 0, not a multiple of 4, or over 2,048

@@ -35,23 +35,23 @@ use Rattle.table.proofs.Table.Laws as T′
 -- ---- a value in memory is its cell and what it owns
 
 module _ {M : Type 1} (𝓤 : URA M) (H : Heap 𝓤) (A : Atoms 𝓤) (W : Given 𝓤 H A) (R : RattleType) where
-  pub shut :
+  pub value-whole :
       (q : Share) (x : R .Denot) (vs : List Val) (b o : ℕ) →
       ent 𝓤 (sep 𝓤 (sem 𝓤 H A (cellAt q (R .mir) vs b o)) (sem 𝓤 H A (R .own x vs))) (sem 𝓤 H A (partAt R q x b o))
   unfolding partOf
-  shut q x vs b o =
+  value-whole q x vs b o =
       qed W (‵ (cellAt q (R .mir) vs b o) ∷ ‵ (R .own x vs) ∷ []) ∵
       fjoin ! $ fpack ! (List Val) (λ us. fsep (cellAt q (R .mir) us b o) (R .own x us)) vs $ done !
 
 module _
     {M : Type 1} {𝓤 : URA M} {H : Heap 𝓤} {A : Atoms 𝓤} {K : Type 0} {W : Given 𝓤 H A} {Γ : List (Item 𝓤)}
     {G : Goal 𝓤 H} where
-  pub opened :
+  pub value-apart :
       K → (R : RattleType) (q : Share) (x : R .Denot) (b o : ℕ) →
       ((vs : List Val) → Seq K W (‵ (cellAt q (R .mir) vs b o) ∷ ‵ (R .own x vs) ∷ Γ) G) →
       Seq K W (‵ (partAt R q x b o) ∷ Γ) G
   unfolding partOf
-  opened t R q x b o k = fpick t (λ vs. fsplit t $ k vs)
+  value-apart t R q x b o k = fpick t (λ vs. fsplit t $ k vs)
 
 -- ---- a member's cell
 

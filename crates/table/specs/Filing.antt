@@ -18,7 +18,8 @@ use Rattle.table.specs.declared.filing.Filing.{Filing}
 use Rattle.table.specs.Members.{openingOf, placeIn}
 use Rattle.table.specs.Calls.{isMember}
 
--- the member at a number's place behind a report that got a number: 14 is tallied, and any other refusal leaves it
+-- the member at a source number's place after a report that got an answer: 14 is tallied, and any other refusal leaves
+-- it as it was
 abbrev pub memberAfter : Member → Record → ℕ → Member
 memberAfter there x number =
     cond (eqb number otherOrigin) (record { «record» = there .«record»; tally = raised (there .tally) })
@@ -27,11 +28,11 @@ memberAfter there x number =
 -- ---- a number with a member, which stands at a place
 
 -- its origin is another than the report's
-abbrev pub isOther : Member → Record → Bool
-isOther there x = not (sameOrigin (there .«record» .origin) (x .origin))
+abbrev pub hasOtherOrigin : Member → Record → Bool
+hasOtherOrigin there x = not (sameOrigin (there .«record» .origin) (x .origin))
 
 abbrev pub knownNumber : Opening → Member → Record → Reading → ℕ
-knownNumber o there x at = reportChecks o x at (isOther there x) false
+knownNumber o there x at = reportChecks o x at (hasOtherOrigin there x) false
 
 abbrev pub knownFiling : Opening → ℕ → ℕ → Member → Record → Reading → Filing
 knownFiling o held place there x at =

@@ -1,5 +1,5 @@
-// What a report does to a table, as one place: every decision is made here and in the search, on plain values, and a
-// caller has only to store what is answered.
+// What a report does to a table, which is a change of one place at most. Every decision is made here and in
+// `Table::filing`, on plain values; a caller has only to store what is answered.
 use crate::tally::raised;
 use checks::report_number;
 use origin::same_origin;
@@ -22,7 +22,7 @@ pub struct Filing {
     pub member: Member,
 }
 
-// The member at a number's place behind a report that got this number: 14 is tallied there.
+// The member at a source number's place after a report that got this answer: 14 is tallied there.
 fn member_after(there: Member, x: Record, number: u64) -> Member
     ensures { λ r. ⌜ r ≡ memberAfter there x number ⌝ }
 {

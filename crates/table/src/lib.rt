@@ -40,8 +40,8 @@ ghost use Rattle.table.specs.Filing.{filingOf};
 ghost use Rattle.table.specs.Choose.{chosenOf};
 ghost use Rattle.table.specs.Intake.{recordOf, taken};
 
-// A table for one group, media source and clock rate. The lowest bit of `held` marks the first place. A caller may
-// store what a filing says where it lies, so the fields are public: every call answers every value that they can have.
+// A table for one group, media source and clock rate. The lowest bit of `held` marks the first place. The fields are
+// public so that a caller can store a filing in the table where it lies; every call answers every value that they have.
 #[repr(C)]
 pub struct Table {
     pub group: u32,

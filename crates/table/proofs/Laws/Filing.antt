@@ -23,8 +23,8 @@ use Rattle.table.specs.declared.Answered.{Answered}
 use Rattle.table.specs.declared.filing.Filing.{Filing}
 use Rattle.table.specs.Members.{openingOf, placeIn}
 use Rattle.table.specs.Calls.{isMember, numberOf, answered}
-use Rattle.table.specs.Filing.{memberAfter, isOther, knownNumber, knownFiling, isFull, newNumber, newFiling}
-use Rattle.table.specs.Filing.{filingOf, withFiling}
+use Rattle.table.specs.Filing.{memberAfter, hasOtherOrigin, knownNumber, knownFiling, isFull}
+use Rattle.table.specs.Filing.{newNumber, newFiling, filingOf, withFiling}
 use Rattle.table.proofs.Laws.Members.{set-same}
 use Rattle.table.proofs.Laws.Cases.{call-refused, call-accepted, report-elsewhere, report-number-there}
 use Rattle.table.proofs.Laws.Cases.{report-tallied, filed-again, filed-anew}
@@ -37,8 +37,8 @@ module _ (there : Member) (x : Record) (number : ℕ) where
       record { «record» = there .«record»; tally = tally } ≡ memberAfter there x number
   member-tallied tally e f = rw (e, f) refl
 
-  pub member-kept : (number ≡ otherOrigin → ⊥) → (number ≡ 0 → ⊥) → there ≡ memberAfter there x number
-  member-kept h k = rw (ne-eqb number otherOrigin h, ne-eqb number 0 k) refl
+  pub member-left : (number ≡ otherOrigin → ⊥) → (number ≡ 0 → ⊥) → there ≡ memberAfter there x number
+  member-left h k = rw (ne-eqb number otherOrigin h, ne-eqb number 0 k) refl
 
   pub member-filed : number ≡ 0 → record { «record» = x; tally = there .tally } ≡ memberAfter there x number
   member-filed e = rw e refl
@@ -47,7 +47,7 @@ module _ (there : Member) (x : Record) (number : ℕ) where
 
 module _ (o : Opening) (held : ℕ) (x : Record) (at : Reading) (number : ℕ) where
   pub known-filed :
-      (place : ℕ) (there member : Member) (elsewhere : Bool) → elsewhere ≡ isOther there x →
+      (place : ℕ) (there member : Member) (elsewhere : Bool) → elsewhere ≡ hasOtherOrigin there x →
       number ≡ reportChecks o x at elsewhere false →
       member ≡ memberAfter there x number →
       record { number = number; place = place; held = held; member = member } ≡ knownFiling o held place there x at
@@ -130,7 +130,7 @@ module _ (t : Table) (x : Record) (at : Reading) where
     known-number : Known ≡ numberOf t (Call.report x at)
     known-number =
         let below : ltb place 64 ≡ true = lt-ltb place 64 known in
-        report-number-there t x at place (isOther there x) false _ refl
+        report-number-there t x at place (hasOtherOrigin there x) false _ refl
         (rw (below, row-at (t .members) place) refl) (rw below refl) refl
 
     stored-known :

@@ -68,7 +68,7 @@ use Rattle.burst.specs.Burst.{burstChecked}
 use Rattle.burst.specs.Singles.{recordAt, afterSingles}
 use Rattle.burst.proofs.Laws.{listAfter, length-list, table-next, list-next, triedOf, tried-most, burst-ends}
 use Rattle.table.proofs.Laws.Filing.{filing-answers}
-use Rattle.table.proofs.InMemory.{memberVal, Cell, Stored, After, stored, shut, opened}
+use Rattle.table.proofs.InMemory.{memberVal, Cell, Stored, After, stored, value-whole, value-apart}
 use Rattle.register.proofs.Member as Mb
 use Rattle.register.proofs.Member.Laws as Mb′
 use Rattle.register.proofs.Record as Rc
@@ -108,20 +108,20 @@ stayed = (
 
 -- ---- the machine values of the records
 
-abbrev machT : Table → Val
-machT t = LL.tuple-val Tb.the-type Tb′.the-laws (Tb.the-type .to t)
+abbrev machTable : Table → Val
+machTable t = LL.tuple-val Tb.the-type Tb′.the-laws (Tb.the-type .to t)
 
-abbrev machC : Record → Val
-machC x = LL.tuple-val Rc.the-type Rc′.the-laws (Rc.the-type .to x)
+abbrev machRecord : Record → Val
+machRecord x = LL.tuple-val Rc.the-type Rc′.the-laws (Rc.the-type .to x)
 
-abbrev machR : Reading → Val
-machR a = LL.tuple-val Rd.the-type Rd′.the-laws (Rd.the-type .to a)
+abbrev machReading : Reading → Val
+machReading a = LL.tuple-val Rd.the-type Rd′.the-laws (Rd.the-type .to a)
 
-abbrev machK : Checked → Val
-machK p = LL.tuple-val Ch.the-type Ch′.the-laws (Ch.the-type .to p)
+abbrev machChecked : Checked → Val
+machChecked p = LL.tuple-val Ch.the-type Ch′.the-laws (Ch.the-type .to p)
 
-abbrev machA : Answered → Val
-machA x = LL.tuple-val An.the-type An′.the-laws (An.the-type .to x)
+abbrev machAnswered : Answered → Val
+machAnswered x = LL.tuple-val An.the-type An′.the-laws (An.the-type .to x)
 
 abbrev word : Ty
 word = tyInt w64
@@ -160,7 +160,7 @@ module _ {M : Type 1} (𝓤 : URA M) (H : Heap 𝓤) (A : Atoms 𝓤) (W : Given
   sv₁ = sliceVal (b′, o′) (length ys)
 
   abbrev at : Vals f.signature (κ₀, (κ₁, tt))
-  at = (machT t ∷ [], (sv₀ ∷ [], (machR a ∷ [], (sv₁ ∷ [], tt))))
+  at = (machTable t ∷ [], (sv₀ ∷ [], (machReading a ∷ [], (sv₁ ∷ [], tt))))
 
   abbrev bound : walkOf 𝓤 H A f.ended stayed (f.clauses 𝓤 H A at-mem run) .Ghost
   bound = (((κ₀, (κ₁, tt)), (q₀, (q₁, tt)), tt, x, at), tt)
@@ -185,18 +185,14 @@ module _ {M : Type 1} (𝓤 : URA M) (H : Heap 𝓤) (A : Atoms 𝓤) (W : Given
   result = record { number = checked .number; table = tbl end }
 
   abbrev IsT : Table → Type 0
-  IsT u = Is Tb.the-row u (machT u ∷ [])
+  IsT u = Is Tb.the-row u (machTable u ∷ [])
 
   -- the lent slices, at lists of the same lengths as on entry
-  abbrev Theirs : Fml
-  Theirs = ShrSlice (named 0) κ₀ Rc.the-row .own reports (sv₀ ∷ [])
+  abbrev ReportsLent : Fml
+  ReportsLent = ShrSlice (named 0) κ₀ Rc.the-row .own reports (sv₀ ∷ [])
 
-  abbrev Mine : List ℕ → Fml
-  Mine zs = MutSlice (named 1) κ₁ u64 .own (answers zs) (sv₁ ∷ [])
-
-  -- the answer to the report at i by itself
-  abbrev ansd : ℕ → Answered
-  ansd i = answered (tbl i) (Call.report (recordAt xs i) a)
+  abbrev AnswersLent : List ℕ → Fml
+  AnswersLent zs = MutSlice (named 1) κ₁ u64 .own (answers zs) (sv₁ ∷ [])
 
   long : (i : ℕ) → length (ans i) ≡ length ys
   long i = length-list t xs a ys i
@@ -232,10 +228,22 @@ module _ {M : Type 1} (𝓤 : URA M) (H : Heap 𝓤) (A : Atoms 𝓤) (W : Given
   args i = (tbl i, (recordAt xs i, (a, tt)))
 
   abbrev to-filing : ℕ → Files 𝓤 H A at-mem run .Ghost
-  to-filing i = ((tt, tt, tt, args i, (machT (tbl i) ∷ [], (machC (recordAt xs i) ∷ [], (machR a ∷ [], tt)))), tt)
+  to-filing i = (
+    (
+      tt,
+      tt,
+      tt,
+      args i,
+      (
+        machTable (tbl i) ∷ [],
+        (machRecord (recordAt xs i) ∷ [], (machReading a ∷ [], tt)),
+      ),
+    ),
+    tt,
+  )
 
-  goes-filing : (i : ℕ) → IsT (tbl i) → Is Rc.the-row (recordAt xs i) (machC (recordAt xs i) ∷ []) →
-      Is Rd.the-row a (machR a ∷ []) → ent 𝓤 (sem 𝓤 H A ftrue) (Files 𝓤 H A at-mem run .pre (to-filing i))
+  goes-filing : (i : ℕ) → IsT (tbl i) → Is Rc.the-row (recordAt xs i) (machRecord (recordAt xs i) ∷ []) →
+      Is Rd.the-row a (machReading a ∷ []) → ent 𝓤 (sem 𝓤 H A ftrue) (Files 𝓤 H A at-mem run .pre (to-filing i))
   goes-filing i isT isC isR =
       qed W (‵ ftrue ∷ []) ∵ nothing ! $ owned ! Rd.the-row (Is Rd.the-row)
       (LL.makes Rd.the-type Rd′.the-plain 𝓤 H A) a _ isR $ fjoin ! $
@@ -267,11 +275,12 @@ module _ {M : Type 1} (𝓤 : URA M) (H : Heap 𝓤) (A : Atoms 𝓤) (W : Given
       LL.owes Tb.the-type Tb′.the-laws (withFiling u r) (w .0, (w .1 .0, (w .1 .1 .0, ((refl, fits), w .1 .1 .1 .1))))
 
   -- from what is had at exit to the `post`
-  exits : IsT t → Is Rd.the-row a (machR a ∷ []) → Is An.the-row result (machA result ∷ []) →
-      ent 𝓤 (⋆ 𝓤 H A (‵ (Mine (ans end)) ∷ ‵ (flft κ₁ q₁) ∷ ‵ Theirs ∷ ‵ (flft κ₀ q₀) ∷ [])) (Post (machA result))
+  exits : IsT t → Is Rd.the-row a (machReading a ∷ []) → Is An.the-row result (machAnswered result ∷ []) →
+      ent 𝓤 (⋆ 𝓤 H A (‵ (AnswersLent (ans end)) ∷ ‵ (flft κ₁ q₁) ∷ ‵ ReportsLent ∷ ‵ (flft κ₀ q₀) ∷ []))
+      (Post (machAnswered result))
   exits isT isR isA =
-      qed W (‵ (Mine (ans end)) ∷ ‵ (flft κ₁ q₁) ∷ ‵ Theirs ∷ ‵ (flft κ₀ q₀) ∷ []) ∵
-      suffices ! _ (ends-at 𝓤 H A f.ended stayed (f.clauses 𝓤 H A at-mem run) W bound (machA result) result
+      qed W (‵ (AnswersLent (ans end)) ∷ ‵ (flft κ₁ q₁) ∷ ‵ ReportsLent ∷ ‵ (flft κ₀ q₀) ∷ []) ∵
+      suffices ! _ (ends-at 𝓤 H A f.ended stayed (f.clauses 𝓤 H A at-mem run) W bound (machAnswered result) result
       (tt, (tt, (tt, (ans end, tt)))) (tt, (tt, (tt, (long end, tt))))) $ says ! (burst-ends t xs a ys) $
       nothing ! $ move ! (2 ∷ 0 ∷ []) $ join ! $ move ! (3 ∷ 0 ∷ []) $ join ! $ frame ! $
       nothing ! $ move ! (1 ∷ 0 ∷ []) $ fjoin ! $ owned ! Rd.the-row (Is Rd.the-row)
@@ -308,7 +317,8 @@ module _ {M : Type 1} (𝓤 : URA M) (H : Heap 𝓤) (A : Atoms 𝓤) (W : Given
         ∷ room word l₁₁ ∷ dies word l₁₁ ∷ room word l₁₀ ∷ dies word l₁₀ ∷ room word l₉ ∷ dies word l₉
         ∷ room Fl′.mir l₈ ∷ dies Fl′.mir l₈ ∷ room word l₇ ∷ dies word l₇ ∷ p₆ ∷ dies Ch′.mir l₆ ∷ p₅
         ∷ dies Tb′.mir l₅ ∷ p₄ ∷ dies slice₁ l₄ ∷ p₃ ∷ dies Rd′.mir l₃ ∷ p₂ ∷ dies slice₀ l₂ ∷ p₁ ∷ dies Tb′.mir l₁
-        ∷ room An′.mir l₀ ∷ dies An′.mir l₀ ∷ ‵ (Mine ys) ∷ ‵ (flft κ₁ q₁) ∷ ‵ Theirs ∷ ‵ (flft κ₀ q₀) ∷ []
+        ∷ room An′.mir l₀ ∷ dies An′.mir l₀ ∷ ‵ (AnswersLent ys) ∷ ‵ (flft κ₁ q₁) ∷ ‵ ReportsLent ∷ ‵
+        (flft κ₀ q₀) ∷ []
 
     -- before the parameters are stored, after, and when the burst has been checked
     abbrev Fresh : List (Item 𝓤)
@@ -317,22 +327,24 @@ module _ {M : Type 1} (𝓤 : URA M) (H : Heap 𝓤) (A : Atoms 𝓤) (W : Given
 
     abbrev Passed : List (Item 𝓤)
     Passed =
-        Held (cell Tb′.mir l₁ (machT t)) (cell slice₀ l₂ sv₀) (cell Rd′.mir l₃ (machR a)) (cell slice₁ l₄ sv₁)
+        Held (cell Tb′.mir l₁ (machTable t)) (cell slice₀ l₂ sv₀) (cell Rd′.mir l₃ (machReading a))
+        (cell slice₁ l₄ sv₁)
         (room Tb′.mir l₅) (room Ch′.mir l₆)
 
     abbrev Ready : List (Item 𝓤)
     Ready =
-        Held (cell Tb′.mir l₁ (machT t)) (cell slice₀ l₂ sv₀) (cell Rd′.mir l₃ (machR a)) (cell slice₁ l₄ sv₁)
-        (cell Tb′.mir l₅ (machT t)) (cell Ch′.mir l₆ (machK checked))
+        Held (cell Tb′.mir l₁ (machTable t)) (cell slice₀ l₂ sv₀) (cell Rd′.mir l₃ (machReading a))
+        (cell slice₁ l₄ sv₁)
+        (cell Tb′.mir l₅ (machTable t)) (cell Ch′.mir l₆ (machChecked checked))
 
     -- at the loop's head, after i reports
     abbrev At : ℕ → List (Item 𝓤)
     At i =
-        cell word l₇ (vint w64 i) ∷ cell Tb′.mir l₅ (machT (tbl i)) ∷ ‵ (Mine (ans i)) ∷ ‵ (flft κ₁ q₁)
+        cell word l₇ (vint w64 i) ∷ cell Tb′.mir l₅ (machTable (tbl i)) ∷ ‵ (AnswersLent (ans i)) ∷ ‵ (flft κ₁ q₁)
         ∷ room Fl′.mir l₈ ∷ room word l₉ ∷ room tyBool l₁₂ ∷ room Tb′.mir l₁₃ ∷ room word l₁₄ ∷ room tyPtr l₁₅
-        ∷ room Rc′.mir l₁₆ ∷ room tyPtr l₁₇ ∷ room tyPtr l₁₈ ∷ room tyPtr l₁₉ ∷ cell Ch′.mir l₆ (machK checked)
-        ∷ cell slice₀ l₂ sv₀ ∷ cell Rd′.mir l₃ (machR a) ∷ cell slice₁ l₄ sv₁ ∷ ‵ Theirs ∷ ‵ (flft κ₀ q₀)
-        ∷ room An′.mir l₀ ∷ room Tb′.mir l₂₀ ∷ cell Tb′.mir l₁ (machT t) ∷ room word l₁₀ ∷ room word l₁₁
+        ∷ room Rc′.mir l₁₆ ∷ room tyPtr l₁₇ ∷ room tyPtr l₁₈ ∷ room tyPtr l₁₉ ∷ cell Ch′.mir l₆ (machChecked checked)
+        ∷ cell slice₀ l₂ sv₀ ∷ cell Rd′.mir l₃ (machReading a) ∷ cell slice₁ l₄ sv₁ ∷ ‵ ReportsLent ∷ ‵ (flft κ₀ q₀)
+        ∷ room An′.mir l₀ ∷ room Tb′.mir l₂₀ ∷ cell Tb′.mir l₁ (machTable t) ∷ room word l₁₀ ∷ room word l₁₁
         ∷ dies An′.mir l₀ ∷ dies Tb′.mir l₁ ∷ dies slice₀ l₂ ∷ dies Rd′.mir l₃ ∷ dies slice₁ l₄ ∷ dies Tb′.mir l₅
         ∷ dies Ch′.mir l₆ ∷ dies word l₇ ∷ dies Fl′.mir l₈ ∷ dies word l₉ ∷ dies word l₁₀ ∷ dies word l₁₁
         ∷ dies tyBool l₁₂ ∷ dies Tb′.mir l₁₃ ∷ dies word l₁₄ ∷ dies tyPtr l₁₅ ∷ dies Rc′.mir l₁₆ ∷ dies tyPtr l₁₇
@@ -341,7 +353,8 @@ module _ {M : Type 1} (𝓤 : URA M) (H : Heap 𝓤) (A : Atoms 𝓤) (W : Given
     module _ (𝓣 : Tables 𝓤 H) (fm : FmC 𝓤 H (W .laws) (𝓣 .C))
         (known-check : Triple 𝓤 (𝓣 .C #burst·check-burst) (CheckBurst 𝓤 H A at-mem run))
         (known-filing : Triple 𝓤 (𝓣 .C #table·filing) (Files 𝓤 H A at-mem run)) (isT : IsT t)
-        (r₀ : Room Rc.the-row (length xs)) (isR : Is Rd.the-row a (machR a ∷ [])) (r₁ : Room u64 (length ys)) where
+        (r₀ : Room Rc.the-row (length xs)) (isR : Is Rd.the-row a (machReading a ∷ []))
+        (r₁ : Room u64 (length ys)) where
       abbrev C : Calls 𝓤 H
       C = 𝓣 .C
 
@@ -351,7 +364,7 @@ module _ {M : Type 1} (𝓤 : URA M) (H : Heap 𝓤) (A : Atoms 𝓤) (W : Given
       abbrev IsK : Type 0
       IsK = Is u64 (checked .number) (vint w64 (checked .number) ∷ [])
 
-      isA : IsK → IsT (tbl end) → Is An.the-row result (machA result ∷ [])
+      isA : IsK → IsT (tbl end) → Is An.the-row result (machAnswered result ∷ [])
       isA isK isTe = LL.owes An.the-type An′.the-laws result (isK, (isTe, tt))
 
       abbrev Facts : ℕ → ℕ → Type 0
@@ -393,13 +406,14 @@ module _ {M : Type 1} (𝓤 : URA M) (H : Heap 𝓤) (A : Atoms 𝓤) (W : Given
           elem-out ! Rc.the-row (Is Rc.the-row) (shows 𝓤 H A Rc.the-row) (LL.vals Rc.the-type Rc′.the-laws)
           (LL.tells Rc.the-type Rc′.the-laws) q′ xs i nowhere b o within₀ (λ isC.
           -- [the record's cell; what it owns; the others; what shuts; the fractured borrow; res; the slice's facts; …]
-          use1 W (‵ (fat q′ Rc′.mir b (place (mem Rc.the-row .size) o i) (machC (recordAt xs i))))
-          (W .laws .raw-at q′ Rc′.mir b (place (mem Rc.the-row .size) o i) (machC (recordAt xs i))) $
+          use1 W (‵ (fat q′ Rc′.mir b (place (mem Rc.the-row .size) o i) (machRecord (recordAt xs i))))
+          (W .laws .raw-at q′ Rc′.mir b (place (mem Rc.the-row .size) o i) (machRecord (recordAt xs i))) $
           assigns ! (of-opd ! (load ! (from ! (hop ! (look ! 16 refl) (stop !))) (look ! 0 refl))) (from ! (stop !))
           (init ! 17 refl (LL.lawful Rc.the-type Rc′.the-laws 𝓤 H A W .typed (recordAt xs i) _ isC .0)) $
-          use1 W (‵ (cellAt q′ (Rc.the-row .mir) (machC (recordAt xs i) ∷ []) b (place (mem Rc.the-row .size) o i)))
-          (W .laws .at-raw q′ Rc′.mir b (place (mem Rc.the-row .size) o i) (machC (recordAt xs i))) $
-          elem-back ! Rc.the-row q′ xs i nowhere (machC (recordAt xs i) ∷ []) b o within₀ $
+          use1 W (‵ (cellAt q′ (Rc.the-row .mir) (machRecord (recordAt xs i) ∷ []) b
+          (place (mem Rc.the-row .size) o i)))
+          (W .laws .at-raw q′ Rc′.mir b (place (mem Rc.the-row .size) o i) (machRecord (recordAt xs i))) $
+          elem-back ! Rc.the-row q′ xs i nowhere (machRecord (recordAt xs i) ∷ []) b o within₀ $
           shuts-slice ! tt Rc.the-row q′ xs b o $ move ! (2 ∷ 1 ∷ []) $ fjoin ! $ move ! (2 ∷ 0 ∷ []) $ fjoin ! $
           -- what the report does
           nothing ! $ use1 W (raw (Files 𝓤 H A at-mem run .pre (to-filing i))) (goes-filing i isTi isC isR) $
@@ -425,11 +439,11 @@ module _ {M : Type 1} (𝓤 : URA M) (H : Heap 𝓤) (A : Atoms 𝓤) (W : Given
           assigns ! (addr ! (from ! (fld ! refl (stop !)))) (from ! (stop !)) (init ! 13 refl (tt, tt)) $
           assigns ! (bin ! (load ! (from ! (stop !)) (look ! 13 refl)) (load ! (from ! (stop !)) (look ! 10 refl)) tt)
           (from ! (stop !)) (init ! 14 refl (tt, tt)) $
-          move ! (3 ∷ []) $ use1 W (‵ (cellAt fullShare (Tb.the-row .mir) (machT (tbl i) ∷ []) l₅ 0))
-          (W .laws .at-raw fullShare Tb′.mir l₅ 0 (machT (tbl i))) $
+          move ! (3 ∷ []) $ use1 W (‵ (cellAt fullShare (Tb.the-row .mir) (machTable (tbl i) ∷ []) l₅ 0))
+          (W .laws .at-raw fullShare Tb′.mir l₅ 0 (machTable (tbl i))) $
           owned ! Tb.the-row (Is Tb.the-row) (LL.makes Tb.the-type Tb′.the-plain 𝓤 H A) (tbl i) _ isTi $
           move ! (1 ∷ 0 ∷ []) $ use2 W (‵ (partAt Tb.the-row fullShare (tbl i) l₅ 0))
-          (shut 𝓤 H A W Tb.the-row fullShare (tbl i) (machT (tbl i) ∷ []) l₅ 0) $
+          (value-whole 𝓤 H A W Tb.the-row fullShare (tbl i) (machTable (tbl i) ∷ []) l₅ 0) $
           use1 W (‵ (Cell 𝓤 H A W fullShare (tbl i) l₅ 0 (r .place) (e .1) (r .member) (has r w is .1 .1 .1 .0)) ⊛ raw
           (wand 𝓤 (sem 𝓤 H A (Stored 𝓤 H A W fullShare (tbl i) l₅ 0 (r .place) (e .1) (r .member)
           (has r w is .1 .1 .1 .0))) (sem 𝓤 H A (After 𝓤 H A W fullShare (tbl i) l₅ 0 (r .place) (e .1) (r .member)
@@ -442,18 +456,18 @@ module _ {M : Type 1} (𝓤 : URA M) (H : Heap 𝓤) (A : Atoms 𝓤) (W : Given
           (apply∗ 𝓤 (sem 𝓤 H A (Stored 𝓤 H A W fullShare (tbl i) l₅ 0 (r .place) (e .1) (r .member)
           (has r w is .1 .1 .1 .0))) (sem 𝓤 H A (After 𝓤 H A W fullShare (tbl i) l₅ 0 (r .place) (e .1) (r .member)
           (has r w is .1 .1 .1 .0)))) $
-          opened ! Tb.the-row fullShare (withMember (tbl i) (r .place) (r .member)) l₅ 0
+          value-apart ! Tb.the-row fullShare (withMember (tbl i) (r .place) (r .member)) l₅ 0
           (λ vs. spelt ! Tb.the-row (Is Tb.the-row) (shows 𝓤 H A Tb.the-row) (LL.vals Tb.the-type Tb′.the-laws)
           (LL.tells Tb.the-type Tb′.the-laws) fullShare (withMember (tbl i) (r .place) (r .member)) vs l₅ 0 $
           move ! (1 ∷ []) $ peeks ! Tb.the-row (Is Tb.the-row) (shows 𝓤 H A Tb.the-row)
-          (withMember (tbl i) (r .place) (r .member)) (machT (withMember (tbl i) (r .place) (r .member)) ∷ [])
+          (withMember (tbl i) (r .place) (r .member)) (machTable (withMember (tbl i) (r .place) (r .member)) ∷ [])
           (λ isW. drop ! $
-          use1 W (cell Tb′.mir l₅ (machT (withMember (tbl i) (r .place) (r .member))))
-          (W .laws .raw-at fullShare Tb′.mir l₅ 0 (machT (withMember (tbl i) (r .place) (r .member)))) $
+          use1 W (cell Tb′.mir l₅ (machTable (withMember (tbl i) (r .place) (r .member))))
+          (W .laws .raw-at fullShare Tb′.mir l₅ 0 (machTable (withMember (tbl i) (r .place) (r .member)))) $
           assigns ! (of-opd ! (load ! (from ! (fld ! refl (stop !))) (look-in ! 6 (sub ! 2 refl (whole !)))))
           (from ! (fld ! refl (stop !))) (store-in ! 0 (sub ! 3 refl (whole !))
           (tt, record { fits = has r w is .1 .1 .0 .1 })) $
-          rewrite ! 0 (λ (u : Table). cell Tb′.mir l₅ (machT u)) (next-table i r e) refl $
+          rewrite ! 0 (λ (u : Table). cell Tb′.mir l₅ (machTable u)) (next-table i r e) refl $
           -- its number goes into the lent list, which is opened and closed
           assigns ! (bin ! (load ! (from ! (stop !)) (look ! 3 refl)) (lit ! tt) (record { fits = bytes₁ }))
           (from ! (stop !)) (store ! 10 refl (tt, record { fits = bytes₁ })) $
@@ -471,7 +485,7 @@ module _ {M : Type 1} (𝓤 : URA M) (H : Heap 𝓤) (A : Atoms 𝓤) (W : Given
           closes-slice ! tt u64 (ans i) (set (ans i) i (r .number)) (length-set (ans i) i (r .number)) b′ o′ $
           fjoin ! $ pureI ! (at-slice u64 (answers (set (ans i) i (r .number))) (sv₁ ∷ [])) (tt, (tt, tt))
           (ap (λ (m : ℕ). sliceVal (b′, o′) m ∷ []) (sym (kept r)), subst (Room u64) (sym (kept r)) r₁) $ fjoin ! $
-          rewrite ! 0 (λ (zs : List ℕ). ‵ (Mine zs)) (next-list i r e) refl $
+          rewrite ! 0 (λ (zs : List ℕ). ‵ (AnswersLent zs)) (next-list i r e) refl $
           -- and the next turn
           assigns-last ! (bin ! (load ! (from ! (stop !)) (look ! 6 refl)) (lit ! tt) (record { fits = next-fits }))
           (from ! (stop !)) (store ! 6 refl (tt, record { fits = next-fits })) $
@@ -604,7 +618,7 @@ module _ {M : Type 1} (𝓤 : URA M) (H : Heap 𝓤) (A : Atoms 𝓤) (W : Given
           (w ∷ []) (λ is.
           land ! (from ! (stop !)) (init ! 29 refl (LL.lawful Ch.the-type Ch′.the-laws 𝓤 H A W .typed p _ is .0)) $
           rewrite ! 29 (λ (u : Val). cell Ch′.mir l₆ u) (ap only (LL.tells Ch.the-type Ch′.the-laws p _ is)) refl $
-          rewrite ! 29 (λ (k : Checked). cell Ch′.mir l₆ (machK k)) e refl $
+          rewrite ! 29 (λ (k : Checked). cell Ch′.mir l₆ (machChecked k)) e refl $
           forget ! 21 refl $ forget ! 19 refl $ drop ! $ by
           ! (ready (subst (λ (k : Checked). Is u64 (k .number) (vint w64 (k .number) ∷ [])) e
           (LL.owed Ch.the-type Ch′.the-laws p _ is .0)))))))
@@ -612,7 +626,7 @@ module _ {M : Type 1} (𝓤 : URA M) (H : Heap 𝓤) (A : Atoms 𝓤) (W : Given
       stores : Seq (Go {0}) W Fresh (passes ((Tb′.mir, l₁) ∷ (slice₀, l₂) ∷ (Rd′.mir, l₃) ∷ (slice₁, l₄) ∷
           (Tb′.mir, l₅) ∷ (Ch′.mir, l₆) ∷ (word, l₇) ∷ (Fl′.mir, l₈) ∷ (word, l₉) ∷ (word, l₁₀) ∷ (word, l₁₁) ∷
           (tyBool, l₁₂) ∷ (Tb′.mir, l₁₃) ∷ (word, l₁₄) ∷ (tyPtr, l₁₅) ∷ (Rc′.mir, l₁₆) ∷ (tyPtr, l₁₇) ∷ (tyPtr, l₁₈) ∷
-          (tyPtr, l₁₉) ∷ (Tb′.mir, l₂₀) ∷ []) (machT t ∷ sv₀ ∷ machR a ∷ sv₁ ∷ [])
+          (tyPtr, l₁₉) ∷ (Tb′.mir, l₂₀) ∷ []) (machTable t ∷ sv₀ ∷ machReading a ∷ sv₁ ∷ [])
           (runs C Λ En text.t-1 (atRet En Post)))
       stores =
           pass1 ! (init ! 38 refl (LL.lawful Tb.the-type Tb′.the-laws 𝓤 H A W .typed t _ isT .0)) $
@@ -622,15 +636,15 @@ module _ {M : Type 1} (𝓤 : URA M) (H : Heap 𝓤) (A : Atoms 𝓤) (W : Given
 
   walk : (𝓣 : Tables 𝓤 H) → FmC 𝓤 H (W .laws) (𝓣 .C) → Triple 𝓤 (𝓣 .C #burst·check-burst)
       (CheckBurst 𝓤 H A at-mem run) → Triple 𝓤 (𝓣 .C #table·filing) (Files 𝓤 H A at-mem run)
-      → IsT t → Room Rc.the-row (length xs) → Is Rd.the-row a (machR a ∷ []) → Room u64 (length ys) →
+      → IsT t → Room Rc.the-row (length xs) → Is Rd.the-row a (machReading a ∷ []) → Room u64 (length ys) →
       ent 𝓤 (onEntry 𝓤 H A f.signature (κ₀, (κ₁, tt)) (q₀, (q₁, tt)) x at)
-      (WpFn 𝓤 H (𝓣 .C) (𝓣 .Λ) code.function (machT t ∷ sv₀ ∷ machR a ∷ sv₁ ∷ []) Post)
+      (WpFn 𝓤 H (𝓣 .C) (𝓣 .Λ) code.function (machTable t ∷ sv₀ ∷ machReading a ∷ sv₁ ∷ []) Post)
   walk 𝓣 fm known-check known-filing isT r₀ isR r₁ =
       qed W ((‵ (flft κ₀ q₀) ⊛ ‵ (flft κ₁ q₁) ⊛ ‵ ftrue) ∷ ‵
       (owns (Tb.the-row ∷ ShrSlice (named 0) κ₀ Rc.the-row ∷ Rd.the-row ∷ MutSlice (named 1) κ₁ u64 ∷ []) x at) ∷ [])
       ∵ move ! (0 ∷ []) $ split ! $ move ! (1 ∷ []) $ split ! $ move ! (3 ∷ []) $ fsplit ! $ move ! (1 ∷ []) $
       fsplit ! $ move ! (1 ∷ []) $ fsplit ! $ move ! (1 ∷ []) $ fsplit ! $ keep ! (0 ∷ 5 ∷ 3 ∷ 7 ∷ []) $
-      enter ! (𝓣 .C) (𝓣 .Λ) code.function (machT t ∷ sv₀ ∷ machR a ∷ sv₁ ∷ []) _ $
+      enter ! (𝓣 .C) (𝓣 .Λ) code.function (machTable t ∷ sv₀ ∷ machReading a ∷ sv₁ ∷ []) _ $
       alloc1 ! (λ l₀. alloc1 ! (λ l₁. alloc1 ! (λ l₂. alloc1
       ! (λ l₃. alloc1 ! (λ l₄. alloc1 ! (λ l₅. alloc1 ! (λ l₆. alloc1
       ! (λ l₇. alloc1 ! (λ l₈. alloc1 ! (λ l₉. alloc1 ! (λ l₁₀. alloc1

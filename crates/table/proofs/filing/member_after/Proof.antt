@@ -1,6 +1,6 @@
 -- One law a return.
 use borrow.Author.Needs.{needs}
-use Rattle.table.proofs.Laws.Filing.{member-tallied, member-kept, member-filed}
+use Rattle.table.proofs.Laws.Filing.{member-tallied, member-left, member-filed}
 use Rattle.table.proofs.filing.member_after.Statement.{statement}
 use Rattle.table.proofs.filing.member_after.Tie as tie
 
@@ -13,7 +13,7 @@ returns c =
     member-tallied (args .there) (args .x) _ _ (c .before .if1 .taken) (c .raised .ensures)
 
 returns-2 : tie.Need-returns-2
-returns-2 c = member-kept _ _ _ (c .before .if1 .left) (c .if2 .taken)
+returns-2 c = member-left _ _ _ (c .before .if1 .left) (c .if2 .taken)
 
 returns-3 : tie.Need-returns-3
 returns-3 c = member-filed _ _ _ (c .if2 .left)
