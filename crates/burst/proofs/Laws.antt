@@ -134,33 +134,26 @@ tried-most reports lent = go (eqb (burstChecks (length reports) (length lent)) 0
     go false e = rw e (zero-le, zero-le)
 
 -- what the loop leaves after the reports that are tried
-pub burst-ends :
-    (t : Table) (reports : List Record) (at : Reading) (lent : List ℕ) →
-    (_≡_ {A = Answered}
-    (record {
-      number = burstChecks (length reports) (length lent);
-      table = afterSingles t reports at (triedOf reports lent);
-    })
-    (burstAnswered t reports at lent))
-    × (listAfter t reports at lent (triedOf reports lent) ≡ burstAnswersAfter t reports at lent)
-unfolding burstAnswered burstAnswersAfter afterSingles listAfter
-burst-ends t reports at lent = go (eqb (burstChecks (length reports) (length lent)) 0) refl
-  where
-    go :
-        (p : Bool) → eqb (burstChecks (length reports) (length lent)) 0 ≡ p →
-        (_≡_ {A = Answered}
-        (record {
-          number = burstChecks (length reports) (length lent);
-          table = afterSingles t reports at (triedOf reports lent);
-        })
-        (burstAnswered t reports at lent))
-        × (listAfter t reports at lent (triedOf reports lent) ≡ burstAnswersAfter t reports at lent)
-    go true e =
-        let none : burstChecks (length reports) (length lent) ≡ 0 = eqb-true _ 0 e in
-        let enough : length reports ≤ length lent = list-enough (length reports) (length lent) none in
-        rw e (
-          ap (λ (u : Table). record { number = burstChecks (length reports) (length lent); table = u })
-              (table-all at t reports),
-          list-all at t reports lent enough,
-        )
-    go false e = rw e (refl, refl)
+module _ (t : Table) (reports : List Record) (at : Reading) (lent : List ℕ) where
+  abbrev number : ℕ
+  number = burstChecks (length reports) (length lent)
+
+  abbrev Ends : Type 0
+  Ends =
+      (_≡_ {A = Answered} (record { number = number; table = afterSingles t reports at (triedOf reports lent) })
+      (burstAnswered t reports at lent))
+      × (listAfter t reports at lent (triedOf reports lent) ≡ burstAnswersAfter t reports at lent)
+
+  pub burst-ends : Ends
+  unfolding burstAnswered burstAnswersAfter afterSingles listAfter
+  burst-ends = go (eqb number 0) refl
+    where
+      go : (p : Bool) → eqb number 0 ≡ p → Ends
+      go true e =
+          let enough : length reports ≤ length lent =
+          list-enough (length reports) (length lent) (eqb-true number 0 e) in
+          rw e (
+            ap (λ (u : Table). record { number = number; table = u }) (table-all at t reports),
+            list-all at t reports lent enough,
+          )
+      go false e = rw e (refl, refl)

@@ -1,24 +1,18 @@
--- The places passed and the place among the rest make up the place, as in `search::place_of`, over a field of the
--- table. The measure is how many are left.
-use Prim.Native.Nat.{ℕ, _+_, _-_, _/_, _≤_}
-use mathlib.Core.Path.{_≡_, sym, ap, _∙_}
-use lib.ListN.{length, length-map, drop}
-use native.Mathlib.Numerals.{add-one}
+-- The search, as in `search::place_of`, over a field of the table; then what it found. The measure is how many places
+-- are left.
+use Prim.Native.Nat.{_-_}
+use mathlib.Core.Path.{_≡_, sym, _∙_}
+use lib.ListN.{length, length-map}
 use native.Mathlib.Omega.{arith}
 use borrow.Author.Needs.{needs}
-use Rattle.register.proofs.Member as M
-use Rattle.register.proofs.Tallies.{length-rows}
-use Rattle.choosing.proofs.Laws.Marked.{row-at}
-use Rattle.table.specs.Members.{recordsIn, placeOf, placeIn}
-use Rattle.table.proofs.Laws.Search.{place-here, place-beyond, place-end}
+use Rattle.register.proofs.Member as Mb
+use Rattle.table.proofs.Laws.Search.{Searching, search-found, search-next, search-none}
 use Rattle.table.proofs.Laws.Filing.{found-known, found-none}
 use Rattle.table.proofs.Table.filing.Statement.{statement}
 use Rattle.table.proofs.Table.filing.Tie as tie
 
 abbrev Inv-loop : tie.InvT-loop
-Inv-loop x at self word₀ i₀ word i =
-    (i ≤ 64)
-    × (i + placeOf (x .source) word (drop i (recordsIn self)) ≡ placeOf (x .source) (self .held) (recordsIn self))
+Inv-loop x at self word₀ i₀ word i = Searching (x .source) (self .held) (self .members) word i
 
 abbrev μ-loop : tie.MeasureT-loop
 μ-loop x at self word₀ i₀ word i = 64 - i
@@ -47,17 +41,15 @@ known-filing-requires c κs = search needs
 returns : tie.Need-returns Inv-loop μ-loop
 returns c =
     let found = c .before .before in
-    let start = found .before .before .before .before in
-    let loop = found .before .before .before .loop in
+    let around = found .before .before .before in
+    let start = around .before in
     let t = start .args .t1 in
-    let x = start .args .x in
-    let len : length (t .members) ≡ 64 =
-    sym (length-map (t .members) (M.the-type .to)) ∙ start .good .0 .1 .1 .1 .1 .1 .1 .0 .1 .0 .1 in
-    let e : _ =
-    place-here (x .source) (loop .word) (recordsIn t) (loop .i) (omega (arith, len, length-rows (t .members)))
-    (rw (row-at (t .members) (loop .i)) (sym (found .before .is-held-by .ensures) ∙ found .if1 .taken)) in
-    let place : _≡_ {A = ℕ} (loop .i) (placeIn t (x .source)) = omega (arith, e, loop .inv .1) in
-    found-known t x (start .args .at) _ (loop .i) place (omega arith) (c .known-filing .ensures)
+    let long : length (t .members) ≡ 64 =
+    sym (length-map (t .members) (Mb.the-type .to)) ∙ start .good .0 .1 .1 .1 .1 .1 .1 .0 .1 .0 .1 in
+    let place : _ =
+    search-found _ _ (t .members) long _ _ (around .loop .inv) (omega arith)
+    (sym (found .before .is-held-by .ensures) ∙ found .if1 .taken) in
+    found-known t (start .args .x) (start .args .at) _ _ place (omega arith) (c .known-filing .ensures)
 
 add-i : tie.Need-add-i Inv-loop μ-loop
 add-i c = omega arith
@@ -67,18 +59,13 @@ loop-less c = omega arith
 
 loop-again : tie.Need-loop-again Inv-loop μ-loop
 loop-again c =
-    let start = c .before .before .before .before in
-    let loop = c .before .before .before .loop in
+    let around = c .before .before .before in
+    let start = around .before in
     let t = start .args .t1 in
-    let x = start .args .x in
-    let len : length (t .members) ≡ 64 =
-    sym (length-map (t .members) (M.the-type .to)) ∙ start .good .0 .1 .1 .1 .1 .1 .1 .0 .1 .0 .1 in
-    let e : _ =
-    place-beyond (x .source) (loop .word) (recordsIn t) (loop .i) (omega (arith, len, length-rows (t .members)))
-    (rw (row-at (t .members) (loop .i)) (sym (c .before .is-held-by .ensures) ∙ c .if1 .left)) in
-    let next : _ =
-    ap (λ (k : ℕ). placeOf (x .source) (loop .word / 2) (drop k (recordsIn t))) (add-one (loop .i)) in
-    (omega arith, omega (arith, e, next, loop .inv .1))
+    let long : length (t .members) ≡ 64 =
+    sym (length-map (t .members) (Mb.the-type .to)) ∙ start .good .0 .1 .1 .1 .1 .1 .1 .0 .1 .0 .1 in
+    search-next _ _ (t .members) long _ _ (around .loop .inv) (omega arith)
+    (sym (c .before .is-held-by .ensures) ∙ c .if1 .left)
 
 element-copy-out-new-filing : tie.Need-element-copy-out-new-filing Inv-loop μ-loop
 element-copy-out-new-filing c = search needs
@@ -88,17 +75,16 @@ new-filing-requires c κs = search needs
 
 returns-2 : tie.Need-returns-2 Inv-loop μ-loop
 returns-2 c =
-    let ended = c .before .before in
-    let start = ended .before .before in
-    let loop = ended .before .loop in
+    let around = c .before .before .before in
+    let start = around .before in
     let t = start .args .t1 in
-    let x = start .args .x in
-    let len : length (t .members) ≡ 64 =
-    sym (length-map (t .members) (M.the-type .to)) ∙ start .good .0 .1 .1 .1 .1 .1 .1 .0 .1 .0 .1 in
-    let e : _ =
-    place-end (x .source) (loop .word) (recordsIn t) (loop .i) (omega (arith, len, length-rows (t .members))) in
-    let none : 64 ≤ placeIn t (x .source) = omega (arith, e, loop .inv .1) in
-    (found-none t x (start .args .at) _ none (c .new-filing .ensures .0), c .new-filing .ensures .1)
+    let long : length (t .members) ≡ 64 =
+    sym (length-map (t .members) (Mb.the-type .to)) ∙ start .good .0 .1 .1 .1 .1 .1 .1 .0 .1 .0 .1 in
+    let none : _ =
+    search-none _ _ (t .members) long _ _ (around .loop .inv) (omega arith) in (
+      found-none t (start .args .x) (start .args .at) _ (omega (arith, none)) (c .new-filing .ensures .0),
+      c .new-filing .ensures .1,
+    )
 
 pub filing-spec : {M : Type 1} → statement M
 filing-spec =

@@ -1,21 +1,14 @@
--- The places passed and the place among the rest make up the place. The measure is how many are left.
-use Prim.Native.Nat.{ℕ, _+_, _-_, _/_, _≤_}
-use mathlib.Core.Path.{_≡_, sym, ap, _∙_}
-use lib.ListN.{drop}
-use native.Mathlib.Numerals.{add-one}
+-- What the search keeps, by its laws. The measure is how many places are left.
+use Prim.Native.Nat.{_-_}
+use mathlib.Core.Path.{sym, _∙_}
 use native.Mathlib.Omega.{arith}
 use borrow.Author.Needs.{needs}
-use Rattle.register.specs.Tallies.{recordsOf}
-use Rattle.register.proofs.Tallies.{length-rows}
-use Rattle.choosing.proofs.Laws.Marked.{row-at}
-use Rattle.table.specs.Members.{placeOf}
-use Rattle.table.proofs.Laws.Search.{place-here, place-beyond, place-end}
+use Rattle.table.proofs.Laws.Search.{Searching, search-found, search-next, search-none}
 use Rattle.table.proofs.search.place_of.Statement.{statement}
 use Rattle.table.proofs.search.place_of.Tie as tie
 
 abbrev Inv-loop : tie.InvT-loop
-Inv-loop held source members word₀ i₀ word i =
-    (i ≤ 64) × (i + placeOf source word (drop i (recordsOf members)) ≡ placeOf source held (recordsOf members))
+Inv-loop held source members word₀ i₀ word i = Searching source held members word i
 
 abbrev μ-loop : tie.MeasureT-loop
 μ-loop held source members word₀ i₀ word i = 64 - i
@@ -36,12 +29,8 @@ returns : tie.Need-returns Inv-loop μ-loop
 returns c =
     let around = c .before .before .before in
     let start = around .before in
-    let loop = around .loop in
-    let e : _ =
-    place-here (start .args .source) (loop .word) (recordsOf (start .args .t2)) (loop .i)
-    (omega (arith, start .good, length-rows (start .args .t2)))
-    (rw (row-at (start .args .t2) (loop .i)) (sym (c .before .is-held-by .ensures) ∙ c .if1 .taken)) in
-    omega (arith, e, loop .inv .1)
+    search-found _ _ (start .args .t2) (omega (arith, start .good)) _ _ (around .loop .inv) (omega arith)
+    (sym (c .before .is-held-by .ensures) ∙ c .if1 .taken)
 
 add-i : tie.Need-add-i Inv-loop μ-loop
 add-i c = omega arith
@@ -53,24 +42,13 @@ loop-again : tie.Need-loop-again Inv-loop μ-loop
 loop-again c =
     let around = c .before .before .before in
     let start = around .before in
-    let loop = around .loop in
-    let e : _ =
-    place-beyond (start .args .source) (loop .word) (recordsOf (start .args .t2)) (loop .i)
-    (omega (arith, start .good, length-rows (start .args .t2)))
-    (rw (row-at (start .args .t2) (loop .i)) (sym (c .before .is-held-by .ensures) ∙ c .if1 .left)) in
-    let next : _ =
-    ap (λ (k : ℕ). placeOf (start .args .source) (loop .word / 2) (drop k (recordsOf (start .args .t2))))
-    (add-one (loop .i)) in
-    (omega arith, omega (arith, e, next, loop .inv .1))
+    search-next _ _ (start .args .t2) (omega (arith, start .good)) _ _ (around .loop .inv) (omega arith)
+    (sym (c .before .is-held-by .ensures) ∙ c .if1 .left)
 
 returns-2 : tie.Need-returns-2 Inv-loop μ-loop
 returns-2 c =
     let start = c .before .before in
-    let loop = c .before .loop in
-    let e : _ =
-    place-end (start .args .source) (loop .word) (recordsOf (start .args .t2)) (loop .i)
-    (omega (arith, start .good, length-rows (start .args .t2))) in
-    omega (arith, e, loop .inv .1)
+    sym (search-none _ _ (start .args .t2) (omega (arith, start .good)) _ _ (c .before .loop .inv) (omega arith))
 
 pub place-of-spec : {M : Type 1} → statement M
 place-of-spec =
