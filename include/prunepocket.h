@@ -1,7 +1,8 @@
 /*
  * prunepocket: reads and writes RTCP for inter-destination media
- * synchronization (IDMS, RFC 7272) and the SDP line that names a group, and
- * holds the member table of a synchronization group, which chooses the target.
+ * synchronization (IDMS, RFC 7272) and the SDP line that names a group, holds
+ * the member table of a synchronization group, which chooses the target, and
+ * runs a site recording through one.
  *
  * Link with libprunepocket.a. Every function takes any arguments that C can
  * pass truthfully (a pointer and the number of elements behind it), answers
@@ -29,7 +30,8 @@ extern "C" {
  * with place 0 says that the call was not refused. After any other number, the
  * memory that was lent to the call is as before. The calls of the member table
  * answer a number alone, 0, 12 to 20, 23 or 24; that for a whole datagram answers
- * number and place, 0, 1 to 7 or 10.
+ * number and place, 0, 1 to 7 or 10. Replaying a recording answers a number alone,
+ * 0, 25, 12 or 10.
  */
 struct prunepocket_answer {
     uint64_t number;
@@ -65,6 +67,8 @@ struct prunepocket_answer {
 /* Numbers 23 and 24 are of a burst of reports, and have no place. */
 #define PRUNEPOCKET_LONG_BURST 23    /* more than 64 reports */
 #define PRUNEPOCKET_SHORT_ANSWERS 24 /* answer list shorter than the reports */
+/* Number 25 is of a recording, and has no place. */
+#define PRUNEPOCKET_BAD_LAYOUT 25 /* over 65,536 bytes, cut short, over 256 entries, or not ending with the bodies */
 
 /* ---- Items --------------------------------------------------------------
  *
@@ -466,6 +470,68 @@ struct prunepocket_place prunepocket_member_at(struct prunepocket_table table, s
  */
 struct prunepocket_followed prunepocket_choose(struct prunepocket_table table,
                                                struct prunepocket_reading reading);
+
+/* ---- Recordings ---------------------------------------------------------
+ *
+ * A recording holds the datagrams that a server received, each with where it
+ * came from and the sender's reading when it arrived. Its numbers are
+ * big-endian, and its parts stand one behind the other:
+ *
+ *     head                4 bytes  how many entries there are, up to 256
+ *                         4        the group
+ *                         4        the media source
+ *                         4        the clock rate
+ *     table of contents   for each entry 32 bytes:
+ *                         8        the NTP time N of the reading
+ *                         4        the RTP time R of the reading
+ *                         16       the address of the origin
+ *                         2        the port of the origin
+ *                         2        the length of the body
+ *     bodies              the datagrams, in the same order, each of the length
+ *                         that its entry says; the last ends where the
+ *                         recording ends
+ *
+ * A recording without entries is its head alone. A body may be of any length,
+ * 0 included: what the reader refuses is refused as an entry.
+ */
+#define PRUNEPOCKET_RECORDING_LIMIT 65536 /* the most bytes of a recording */
+#define PRUNEPOCKET_ENTRY_LIMIT 256       /* the most entries of a recording */
+
+#define PRUNEPOCKET_ENTRY_ITEMS 0    /* how many items the datagram has; 0 where the reader refuses it */
+#define PRUNEPOCKET_ENTRY_ACCEPTED 1 /* how many of its reports and farewells were accepted */
+#define PRUNEPOCKET_ENTRY_NUMBER 2   /* the reader's refusal, or the first of its reports and farewells, or 0 */
+#define PRUNEPOCKET_ENTRY_ROW 3      /* columns of an entry's row */
+
+/* What replaying a recording answers. */
+struct prunepocket_replayed {
+    uint64_t number;                  /* The refusal's number, or 0 that there is none. */
+    uint64_t entries;                 /* How many entries the recording has; 0 after a refusal. */
+    uint64_t choice;                  /* 0 where there is a target; else 20, after a refusal too. */
+    struct prunepocket_target target; /* The target, or zeros where there is none. */
+};
+
+/*
+ * Runs a recording through a table that is opened for its group, media source
+ * and rate: each datagram in turn, as prunepocket_take_datagram takes it under
+ * its entry's origin and reading, with reduced size not agreed; then chooses at
+ * the last entry's reading. Without entries there is no target.
+ * What each entry gave goes into rows, PRUNEPOCKET_ENTRY_ROW numbers an entry:
+ * its items; how many of its reports and farewells were accepted; and the first
+ * number other than 0 that one of them got, 13 to 19, or 0. Settings are items,
+ * and are neither accepted nor refused. A datagram that the reader refuses has 0
+ * items, 0 accepted and the reader's number, 1 to 7, and the table stays as it
+ * was. Numbers of the array behind the last row are as before.
+ * PRUNEPOCKET_ENTRY_ROW times PRUNEPOCKET_ENTRY_LIMIT numbers are always enough.
+ * Refusals, in this order: 25 where the recording is longer than
+ * PRUNEPOCKET_RECORDING_LIMIT, ends within its head, has more than
+ * PRUNEPOCKET_ENTRY_LIMIT entries, ends within its table of contents, or does
+ * not end where its last body does; 12 where its group is 0 or 4294967295, or
+ * its rate is outside of 1 to 192,000; then 10 where rows_length is below
+ * PRUNEPOCKET_ENTRY_ROW times the number of entries. The rows are then as
+ * before.
+ */
+struct prunepocket_replayed prunepocket_replay(const uint8_t *recording, size_t length,
+                                               uint64_t *rows, size_t rows_length);
 
 #ifdef __cplusplus
 }
