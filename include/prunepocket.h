@@ -6,8 +6,8 @@
  *
  * Link with libprunepocket.a. Every function takes any arguments that C can
  * pass truthfully (a pointer and the number of elements behind it), answers
- * every datagram, every line and every table, allocates nothing, keeps nothing
- * between calls and may be called from any thread.
+ * every datagram, every line, every table and every recording, allocates
+ * nothing, keeps nothing between calls and may be called from any thread.
  *
  * A pointer may not be null. Where an array is empty, pass the address of any
  * object and the length 0. Two pointers that are passed to one call must not
@@ -30,8 +30,8 @@ extern "C" {
  * with place 0 says that the call was not refused. After any other number, the
  * memory that was lent to the call is as before. The calls of the member table
  * answer a number alone, 0, 12 to 20, 23 or 24; that for a whole datagram answers
- * number and place, 0, 1 to 7 or 10. Replaying a recording answers a number alone,
- * 0, 25, 12 or 10.
+ * number and place, 0, 1 to 7 or 10. Replaying a recording answers a number
+ * without a place, 0, 25, 12 or 10.
  */
 struct prunepocket_answer {
     uint64_t number;
@@ -491,22 +491,23 @@ struct prunepocket_followed prunepocket_choose(struct prunepocket_table table,
  *                         that its entry says; the last ends where the
  *                         recording ends
  *
- * A recording without entries is its head alone. A body may be of any length,
- * 0 included: what the reader refuses is refused as an entry.
+ * A recording without entries is its head alone. A body may have any length
+ * that the recording has room for, 0 included, whether or not the reader takes
+ * it: what it refuses is refused as an entry.
  */
 #define PRUNEPOCKET_RECORDING_LIMIT 65536 /* the most bytes of a recording */
 #define PRUNEPOCKET_ENTRY_LIMIT 256       /* the most entries of a recording */
 
 #define PRUNEPOCKET_ENTRY_ITEMS 0    /* how many items the datagram has; 0 where the reader refuses it */
 #define PRUNEPOCKET_ENTRY_ACCEPTED 1 /* how many of its reports and farewells were accepted */
-#define PRUNEPOCKET_ENTRY_NUMBER 2   /* the reader's refusal, or the first of its reports and farewells, or 0 */
+#define PRUNEPOCKET_ENTRY_NUMBER 2   /* the reader's number, or the first refusal among reports and farewells, or 0 */
 #define PRUNEPOCKET_ENTRY_ROW 3      /* columns of an entry's row */
 
 /* What replaying a recording answers. */
 struct prunepocket_replayed {
     uint64_t number;                  /* The refusal's number, or 0 that there is none. */
     uint64_t entries;                 /* How many entries the recording has; 0 after a refusal. */
-    uint64_t choice;                  /* 0 where there is a target; else 20, after a refusal too. */
+    uint64_t choice;                  /* 0 where there is a target; else 20: none is fresh, no entries, or refused. */
     struct prunepocket_target target; /* The target, or zeros where there is none. */
 };
 

@@ -93,3 +93,8 @@ longBurst = 23
 -- answer list shorter than the burst's reports
 abbrev pub shortAnswers : ℕ
 shortAnswers = 24
+
+-- a recording over 65,536 bytes, with its head or its table of contents cut short, with more than 256 entries, or with
+-- bodies that do not end exactly at its end
+abbrev pub badLayout : ℕ
+badLayout = 25

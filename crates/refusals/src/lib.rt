@@ -69,3 +69,7 @@ pub const LONG_BURST: u64 = 23;
 
 // Answer list shorter than the burst's reports.
 pub const SHORT_ANSWERS: u64 = 24;
+
+// A recording over 65,536 bytes, with its head or its table of contents cut short, with more than 256 entries, or with
+// bodies that do not end exactly at its end.
+pub const BAD_LAYOUT: u64 = 25;

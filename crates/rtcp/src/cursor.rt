@@ -26,7 +26,7 @@ pub struct Cursor {
     state: State,
 }
 
-pub(crate) enum State {
+pub enum State {
     // Before the packet at a place.
     Packet(usize),
     // Among the sources of a BYE packet: the next one, where they stop, and the packet behind.

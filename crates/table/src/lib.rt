@@ -97,7 +97,7 @@ fn numbered(a: Answered) -> Taken
 }
 
 // A report item under its origin. Its source number is the sender's.
-fn record_of(r: Report, origin: Origin) -> Record
+pub fn record_of(r: Report, origin: Origin) -> Record
     ensures { λ x. ⌜ x ≡ recordOf r origin ⌝ }
 {
     Record {

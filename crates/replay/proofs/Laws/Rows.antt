@@ -1,0 +1,84 @@
+-- Laws of an entry's row.
+use Prim.Native.Nat.{ℕ, _+_, _≤_}
+use mathlib.Core.Path.{_≡_, refl, sym, ap, _∙_}
+use mathlib.Core.Bool.{Bool, true, false, cond}
+use mathlib.Core.List.{List, [], _∷_}
+use lib.Dec.{eqb}
+use native.Mathlib.Omega.{arith}
+use borrow.Author.Tests.{eqb-true, eqb-false, ne-eqb, eq-eqb}
+use Rattle.replay.specs.declared.steps.Row.{Row}
+use Rattle.replay.specs.Replay.{acceptedIn, firstRefusal}
+use Rattle.replay.specs.Steps.{firstOf, rowAfter, cellsOf, rowWithMore}
+
+pub first-of-none : (number : ℕ) → firstOf number 0 ≡ number
+first-of-none number = go (eqb number 0) refl
+  where
+    go : (b : Bool) → eqb number 0 ≡ b → firstOf number 0 ≡ number
+    go true e = rw e (sym (eqb-true number 0 e))
+    go false e = rw e refl
+
+first-of-kept : (a b : ℕ) → eqb a 0 ≡ false → firstOf a b ≡ a
+first-of-kept a b e = rw e refl
+
+-- the first of three numbers
+first-of-more : (a b c : ℕ) → firstOf a (firstOf b c) ≡ firstOf (firstOf a b) c
+first-of-more a b c = go (eqb a 0) refl
+  where
+    go : (t : Bool) → eqb a 0 ≡ t → firstOf a (firstOf b c) ≡ firstOf (firstOf a b) c
+    go true e = rw e refl
+    go false e =
+        first-of-kept a (firstOf b c) e
+        ∙ sym (first-of-kept a c e)
+        ∙ ap (λ (n : ℕ). firstOf n c) (sym (first-of-kept a b e))
+
+accepted-more : (t : Bool) (n m : ℕ) → n + cond t (1 + m) m ≡ cond t (n + 1) n + m
+accepted-more true n m = omega arith
+accepted-more false n m = omega arith
+
+-- ---- rowAfter, one law a return
+
+module _ (row : Row) (number : ℕ) where
+  pub row-accepted :
+      number ≡ 0
+      → record { items = row .items; accepted = row .accepted + 1; number = row .number } ≡ rowAfter row number
+  unfolding rowAfter
+  row-accepted e = rw (e, first-of-none (row .number)) refl
+
+  pub row-refused :
+      (number ≡ 0 → ⊥) → row .number ≡ 0
+      → record { items = row .items; accepted = row .accepted; number = number } ≡ rowAfter row number
+  unfolding rowAfter
+  row-refused h e = rw (ne-eqb number 0 h, e) refl
+
+  pub row-kept : (number ≡ 0 → ⊥) → (row .number ≡ 0 → ⊥) → row ≡ rowAfter row number
+  unfolding rowAfter
+  row-kept h k = rw (ne-eqb number 0 h, ne-eqb (row .number) 0 k) refl
+
+-- ---- the row that a row so far becomes
+
+-- with one call more behind it, or with the call's number in it
+pub row-more :
+    (row : Row) (number : ℕ) (numbers : List ℕ)
+    → rowWithMore row (number ∷ numbers) ≡ rowWithMore (rowAfter row number) numbers
+unfolding rowAfter acceptedIn firstRefusal
+row-more row number numbers =
+    let after = rowAfter row number in
+    let sum : row .accepted + acceptedIn (number ∷ numbers) ≡ after .accepted + acceptedIn numbers =
+    accepted-more (eqb number 0) (row .accepted) (acceptedIn numbers) in
+    ap (λ (n : ℕ). row .items ∷ n ∷ firstOf (row .number) (firstRefusal (number ∷ numbers)) ∷ []) sum
+    ∙ ap (λ (n : ℕ). row .items ∷ (after .accepted + acceptedIn numbers) ∷ n ∷ [])
+    (first-of-more (row .number) number (firstRefusal numbers))
+
+pub row-whole : (row : Row) → rowWithMore row [] ≡ cellsOf row
+unfolding acceptedIn firstRefusal
+row-whole row =
+    let sum : row .accepted + 0 ≡ row .accepted = omega arith in
+    rw (sum, first-of-none (row .number)) refl
+
+pub accepted-after : (row : Row) (number : ℕ) → rowAfter row number .accepted ≤ row .accepted + 1
+unfolding rowAfter
+accepted-after row number = go (eqb number 0) refl
+  where
+    go : (b : Bool) → eqb number 0 ≡ b → rowAfter row number .accepted ≤ row .accepted + 1
+    go true e = rw e (omega arith)
+    go false e = rw e (omega arith)

@@ -1,0 +1,117 @@
+// Runs a site recording through a member table: each entry's datagram in turn, under its own origin and reading, with a
+// row of numbers for what it gave, and then the choice at the last entry's reading.
+mod layout;
+mod steps;
+
+use idms::Item;
+use layout::entry_at;
+use layout::entry_place;
+use layout::is_bad_layout;
+use layout::read32;
+use refusals::BAD_LAYOUT;
+use refusals::NONE_COUNTED;
+use refusals::SHORT_BUFFER;
+use register::Choice;
+use rtcp::open_datagram;
+use steps::Next;
+use steps::first_row;
+use steps::next_of;
+use steps::put_row;
+use steps::row_after;
+use table::Table;
+use table::record_of;
+ghost use mathlib.Core.Path.{_≡_};
+ghost use mathlib.Core.Bool.{false};
+ghost use mathlib.Core.List.{_++_};
+ghost use Prim.Native.Nat.{_*_, _≤_, _<_};
+ghost use lib.ListN.{length, drop};
+ghost use Rattle.replay.specs.Recording.{entryCount, entriesIn, isBadLayout};
+ghost use Rattle.replay.specs.Replay.{entryRowLength, entryRows, choiceAtEnd, replayed, replayedRows};
+
+// What a replay answers: how many entries there are and the choice at the last one's reading, or a refusal's number.
+pub enum Replayed {
+    Entries(usize, Choice),
+    Refused(u64),
+}
+
+const ROW_LENGTH: usize = 3;
+
+// Every item of every entry into the table, in order, and each entry's row to its place. One loop does both, so that
+// the table stays where it lies: handed on by value from entry to entry, it would be copied.
+fn run_entries(t: Table, f: &[u8], n: usize, rows: &mut [u64]) -> Choice
+    requires { ⌜ (isBadLayout (now f) ≡ false) × (n ≡ entryCount (now f)) × (0 < n)
+        × (entryRowLength * n ≤ length (now rows)) ⌝ }
+    ensures { λ r. ⌜ (r ≡ choiceAtEnd t (entriesIn (now (f .entry))))
+        × (now (rows .exit) ≡ entryRows t (entriesIn (now (f .entry))) ++ drop (entryRowLength * n) (now (rows .entry))) ⌝ }
+{
+    let mut table = t;
+    let mut i: usize = 0;
+    let mut entry = entry_at(f, entry_place(0), entry_place(n));
+    let mut body = entry.body;
+    let mut end = entry.end;
+    let mut left = open_datagram(&f[body..end], false);
+    let mut row = first_row(left);
+    loop {
+        match next_of(&f[body..end], left) {
+            Next::Item(item, rest) => {
+                let origin = entry.origin;
+                let at = entry.at;
+                match item {
+                    Item::Report(report) => {
+                        let f = table.filing(record_of(report, origin), at);
+                        let place = f.place;
+                        let member = f.member;
+                        table.members[place] = member;
+                        table.held = f.held;
+                        row = row_after(row, f.number);
+                    }
+                    Item::Farewell(source) => {
+                        let answered = table.farewell(source, origin);
+                        table = answered.table;
+                        row = row_after(row, answered.number);
+                    }
+                    Item::Settings(_) => {}
+                }
+                left = rest;
+            }
+            Next::Over => {
+                put_row(rows, ROW_LENGTH * i, row);
+                i += 1;
+                if i == n {
+                    let at = entry.at;
+                    let chosen = table.choose(at);
+                    return chosen.choice;
+                }
+                entry = entry_at(f, entry_place(i), end);
+                body = entry.body;
+                end = entry.end;
+                left = open_datagram(&f[body..end], false);
+                row = first_row(left);
+            }
+        }
+    }
+}
+
+// Runs a recording through a table that is opened for its head, with a row for each entry, and chooses at the last
+// one's reading. Refused with 25, then 12, then 10, it changes nothing.
+pub fn replay(f: &[u8], rows: &mut [u64]) -> Replayed
+    ensures { λ r. ⌜ r ≡ replayed (now (f .entry)) (now (rows .entry)) ⌝ }
+    ensures { λ _. ⌜ now (rows .exit) ≡ replayedRows (now (f .entry)) (now (rows .entry)) ⌝ }
+{
+    if is_bad_layout(f) {
+        return Replayed::Refused(BAD_LAYOUT);
+    }
+    let n = read32(f, 0) as usize;
+    let opened = Table::open(read32(f, 4), read32(f, 8), read32(f, 12));
+    if opened.number != 0 {
+        return Replayed::Refused(opened.number);
+    }
+    if rows.len() < ROW_LENGTH * n {
+        return Replayed::Refused(SHORT_BUFFER);
+    }
+    if n == 0 {
+        return Replayed::Entries(0, Choice::Refused(NONE_COUNTED));
+    }
+    let table = opened.table;
+    Replayed::Entries(n, run_entries(table, f, n, rows))
+}
