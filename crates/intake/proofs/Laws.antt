@@ -128,7 +128,7 @@ length-answersFrom t (call ∷ calls) = ap suc (length-answersFrom (answered t c
 
 -- ---- stores, one run behind another
 
-sets-append : (l xs ys : List ℕ) (i : ℕ) → sets l i (xs ++ ys) ≡ sets (sets l i xs) (i + length xs) ys
+pub sets-append : (l xs ys : List ℕ) (i : ℕ) → sets l i (xs ++ ys) ≡ sets (sets l i xs) (i + length xs) ys
 sets-append l [] ys i =
     let same : i ≡ i + 0 = omega arith in
     ap (λ (k : ℕ). sets l k ys) same
@@ -136,7 +136,7 @@ sets-append l (x ∷ xs) ys i =
     let same : suc i + length xs ≡ i + suc (length xs) = omega arith in
     sets-append (set l i x) xs ys (suc i) ∙ ap (λ (k : ℕ). sets (sets (set l i x) (suc i) xs) k ys) same
 
-sets-front : (l xs : List ℕ) → length xs ≤ length l → sets l 0 xs ≡ xs ++ drop (length xs) l
+pub sets-front : (l xs : List ℕ) → length xs ≤ length l → sets l 0 xs ≡ xs ++ drop (length xs) l
 sets-front l xs h =
     let all : 0 + length xs ≡ length xs = omega arith in
     sets-eq xs l 0 (omega arith) ∙ ap (λ (k : ℕ). xs ++ drop k l) all

@@ -3,6 +3,7 @@ use Prim.Native.Nat.{ℕ, suc, zero, _+_, _-_}
 use mathlib.Core.List.{List, [], _∷_}
 use mathlib.Core.Bool.{cond}
 use lib.Dec.{eqb}
+use lib.ListN.{take, drop}
 use Rattle.idms.specs.declared.Placed.{Placed}
 use Rattle.rtcp.specs.declared.cursor.Cursor.{Cursor}
 use Rattle.rtcp.specs.declared.cursor.Opened.{Opened}
@@ -18,6 +19,10 @@ use Rattle.replay.specs.Replay.{acceptedIn, firstRefusal}
 abbrev pub listedAt : List ℕ → ℕ → ℕ → Listed
 listedAt f p body =
     record { at = entryReading f p; origin = entryOrigin f p; body = body; end = body + bodyLength f p }
+
+-- its datagram
+abbrev pub datagramOf : List ℕ → Listed → List ℕ
+datagramOf f entry = take (entry .end - entry .body) (drop (entry .body) f)
 
 -- ---- what is left of a datagram
 

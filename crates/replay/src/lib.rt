@@ -12,19 +12,22 @@ use refusals::BAD_LAYOUT;
 use refusals::NONE_COUNTED;
 use refusals::SHORT_BUFFER;
 use register::Choice;
-use rtcp::open_datagram;
 use steps::Next;
 use steps::first_row;
 use steps::next_of;
+use steps::open_entry;
 use steps::put_row;
 use steps::row_after;
 use table::Table;
+use table::filing_at;
+use table::place_among;
 use table::record_of;
 ghost use mathlib.Core.Path.{_≡_};
 ghost use mathlib.Core.Bool.{false};
 ghost use mathlib.Core.List.{_++_};
 ghost use Prim.Native.Nat.{_*_, _≤_, _<_};
-ghost use lib.ListN.{length, drop};
+ghost use lib.ListN.{length, drop, replicate};
+ghost use Rattle.table.specs.Members.{sourcesOf};
 ghost use Rattle.replay.specs.Recording.{entryCount, entriesIn, isBadLayout};
 ghost use Rattle.replay.specs.Replay.{entryRowLength, entryRows, choiceAtEnd, replayed, replayedRows};
 
@@ -36,34 +39,49 @@ pub enum Replayed {
 
 const ROW_LENGTH: usize = 3;
 
-// Every item of every entry into the table, in order, and each entry's row to its place. One loop does both, so that
-// the table stays where it lies: handed on by value from entry to entry, it would be copied.
+// Every item of every entry into the table, in order, and each entry's row to its place; then the choice. It is one
+// loop, and searches a list of the members' source numbers, so that the table stays where it lies: handed on by value,
+// it would be copied.
 fn run_entries(t: Table, f: &[u8], n: usize, rows: &mut [u64]) -> Choice
-    requires { ⌜ (isBadLayout (now f) ≡ false) × (n ≡ entryCount (now f)) × (0 < n)
-        × (entryRowLength * n ≤ length (now rows)) ⌝ }
+    requires { ⌜ (sourcesOf (t .members) ≡ replicate 64 0) × (isBadLayout (now f) ≡ false) × (n ≡ entryCount (now f))
+        × (0 < n) × (entryRowLength * n ≤ length (now rows)) ⌝ }
     ensures { λ r. ⌜ (r ≡ choiceAtEnd t (entriesIn (now (f .entry))))
-        × (now (rows .exit) ≡ entryRows t (entriesIn (now (f .entry))) ++ drop (entryRowLength * n) (now (rows .entry))) ⌝ }
+        × (now (rows .exit)
+        ≡ entryRows t (entriesIn (now (f .entry))) ++ drop (entryRowLength * n) (now (rows .entry))) ⌝ }
 {
     let mut table = t;
+    let mut sources = [0u32; 64];
     let mut i: usize = 0;
     let mut entry = entry_at(f, entry_place(0), entry_place(n));
-    let mut body = entry.body;
-    let mut end = entry.end;
-    let mut left = open_datagram(&f[body..end], false);
+    let mut left = open_entry(f, entry);
     let mut row = first_row(left);
     loop {
-        match next_of(&f[body..end], left) {
+        match next_of(f, entry, left) {
             Next::Item(item, rest) => {
                 let origin = entry.origin;
                 let at = entry.at;
                 match item {
                     Item::Report(report) => {
-                        let f = table.filing(record_of(report, origin), at);
-                        let place = f.place;
-                        let member = f.member;
+                        let x = record_of(report, origin);
+                        let found = place_among(table.held, sources, x.source);
+                        let slot = found % 64;
+                        let there = table.members[slot];
+                        let filing = filing_at(
+                            table.group,
+                            table.media,
+                            table.rate,
+                            table.held,
+                            found,
+                            there,
+                            x,
+                            at,
+                        );
+                        let place = filing.place;
+                        let member = filing.member;
+                        sources[place] = member.record.source;
                         table.members[place] = member;
-                        table.held = f.held;
-                        row = row_after(row, f.number);
+                        table.held = filing.held;
+                        row = row_after(row, filing.number);
                     }
                     Item::Farewell(source) => {
                         let answered = table.farewell(source, origin);
@@ -82,10 +100,8 @@ fn run_entries(t: Table, f: &[u8], n: usize, rows: &mut [u64]) -> Choice
                     let chosen = table.choose(at);
                     return chosen.choice;
                 }
-                entry = entry_at(f, entry_place(i), end);
-                body = entry.body;
-                end = entry.end;
-                left = open_datagram(&f[body..end], false);
+                entry = entry_at(f, entry_place(i), entry.end);
+                left = open_entry(f, entry);
                 row = first_row(left);
             }
         }

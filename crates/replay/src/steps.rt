@@ -1,13 +1,17 @@
 // One item of an entry, and the entry's row as far as its items were taken.
+use crate::layout::Listed;
 use idms::Item;
 use rtcp::Opened;
 use rtcp::Step;
 use rtcp::next_item;
+use rtcp::open_datagram;
 ghost use mathlib.Core.Path.{_≡_};
 ghost use Prim.Native.Nat.{_+_, _≤_, _<_};
 ghost use lib.ListN.{length};
 ghost use lib.Seq.{sets};
-ghost use Rattle.replay.specs.Steps.{nextIn, firstRow, rowAfter, cellsOf};
+ghost use mathlib.Core.Bool.{false};
+ghost use Rattle.rtcp.specs.Answers.{cursorOn};
+ghost use Rattle.replay.specs.Steps.{datagramOf, nextIn, firstRow, rowAfter, cellsOf};
 
 // How many items there are, how many of those so far were accepted, and the first refusal so far, or 0.
 pub(crate) struct Row {
@@ -22,9 +26,20 @@ pub(crate) enum Next {
     Over,
 }
 
-// The next of what is left of a datagram.
-pub(crate) fn next_of(d: &[u8], left: Opened) -> Next
-    ensures { λ r. ⌜ r ≡ nextIn (now (d .entry)) left ⌝ }
+// Checks an entry's datagram, and puts a cursor before its first item. Reduced size is off.
+pub(crate) fn open_entry(f: &[u8], entry: Listed) -> Opened
+    requires { ⌜ (entry .body ≤ entry .end) × (entry .end ≤ length (now f)) ⌝ }
+    ensures { λ r. ⌜ r ≡ cursorOn false (datagramOf (now (f .entry)) entry) ⌝ }
+{
+    let body = entry.body;
+    let end = entry.end;
+    open_datagram(&f[body..end], false)
+}
+
+// The next of what is left of an entry's datagram.
+pub(crate) fn next_of(f: &[u8], entry: Listed, left: Opened) -> Next
+    requires { ⌜ (entry .body ≤ entry .end) × (entry .end ≤ length (now f)) ⌝ }
+    ensures { λ r. ⌜ r ≡ nextIn (datagramOf (now (f .entry)) entry) left ⌝ }
 {
     match left {
         Opened::Refused(_) => Next::Over,
@@ -32,7 +47,9 @@ pub(crate) fn next_of(d: &[u8], left: Opened) -> Next
             if n == 0 {
                 return Next::Over;
             }
-            match next_item(d, cursor) {
+            let body = entry.body;
+            let end = entry.end;
+            match next_item(&f[body..end], cursor) {
                 Step::End => Next::Over,
                 Step::Item(x, next) => {
                     let item = x.item;

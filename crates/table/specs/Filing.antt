@@ -2,7 +2,7 @@
 -- word of places held. Where a report changes nothing, it is the member from before.
 use Prim.Native.Nat.{ℕ}
 use mathlib.Core.Bool.{Bool, false, not, cond}
-use lib.Dec.{eqb}
+use lib.Dec.{ltb, eqb}
 use lib.ListN.{getD, set}
 use Rattle.origin.specs.Origins.{sameOrigin}
 use Rattle.refusals.specs.Refusals.{otherOrigin}
@@ -63,6 +63,11 @@ filingOf t x at =
     let place = placeIn t (x .source) in
     cond (isMember t (x .source)) (knownFiling (openingOf t) (t .held) place (getD (t .members) place nobody) x at)
     (newFiling (openingOf t) (t .held) (getD (t .members) 0 nobody) x at)
+
+-- the same by the number's place, or 64, and who stands there, or else at the first place
+abbrev pub filingAt : Opening → ℕ → ℕ → Member → Record → Reading → Filing
+filingAt o held place there x at =
+    cond (ltb place 64) (knownFiling o held place there x at) (newFiling o held there x at)
 
 -- the table with that stored: it is the one that the call leaves
 abbrev pub withFiling : Table → Filing → Table

@@ -1,7 +1,8 @@
 -- The member table (document 01): 64 places, of which a single word marks those held, its lowest bit the first place.
 use Prim.Native.Nat.{ℕ, _+_, _/_}
 use mathlib.Core.Bool.{not, cond, _&&_}
-use mathlib.Core.List.{[], _∷_}
+use mathlib.Core.List.{List, [], _∷_, map}
+use lib.Dec.{eqb}
 use lib.ListN.{getD, replicate}
 use Rattle.places.specs.Places.{isFree, heldIn, holdsPlace}
 use Rattle.register.specs.declared.Member.{Member}
@@ -51,6 +52,15 @@ unfoldable pub placeOf : ℕ → ℕ → Rows → ℕ
 placeOf source word [] = 0
 placeOf source word (m ∷ ms) =
     cond (not (isFree word) && hasNumber source m) 0 (1 + placeOf source (word / 2) ms)
+
+-- the members' source numbers, and the place among them alone
+abbrev pub sourcesOf : Members → List ℕ
+sourcesOf ms = map (λ (m : Member). m .«record» .source) ms
+
+unfoldable pub placeAmong : ℕ → ℕ → List ℕ → ℕ
+placeAmong source word [] = 0
+placeAmong source word (number ∷ numbers) =
+    cond (not (isFree word) && eqb number source) 0 (1 + placeAmong source (word / 2) numbers)
 
 abbrev pub placeIn : Table → ℕ → ℕ
 placeIn t source = placeOf source (t .held) (recordsIn t)

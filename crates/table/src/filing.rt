@@ -11,7 +11,7 @@ use register::Reading;
 use register::Record;
 ghost use Prim.Native.Nat.{_<_};
 ghost use mathlib.Core.Path.{_≡_};
-ghost use Rattle.table.specs.Filing.{memberAfter, knownFiling, newFiling};
+ghost use Rattle.table.specs.Filing.{memberAfter, knownFiling, newFiling, filingAt};
 
 // A report's number; the place and the member that stands there afterwards, which is the one from before where the
 // report changes nothing; and the word of places held.
@@ -96,4 +96,25 @@ pub(crate) fn new_filing(
         held: with_place(held, free),
         member,
     }
+}
+
+// A report, by where its number's member stands, or 64 where it has none, and who stands there, or else at the first
+// place: for a caller that searches by itself.
+pub fn filing_at(
+    group: u32,
+    media: u32,
+    rate: u32,
+    held: u64,
+    place: usize,
+    there: Member,
+    x: Record,
+    at: Reading,
+) -> Filing
+    ensures { λ r. ⌜ (r ≡ filingAt (record { group = group; media = media; rate = rate }) held place there x at)
+        × (r .place < 64) ⌝ }
+{
+    if place < 64 {
+        return known_filing(group, media, rate, held, place, there, x, at);
+    }
+    new_filing(group, media, rate, held, there, x, at)
 }

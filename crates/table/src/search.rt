@@ -10,7 +10,7 @@ ghost use lib.ListN.{getD};
 ghost use Rattle.places.specs.Places.{isFree};
 ghost use Rattle.register.specs.Tallies.{recordsOf};
 ghost use Rattle.choosing.specs.Marked.{nobody};
-ghost use Rattle.table.specs.Members.{placeOf};
+ghost use Rattle.table.specs.Members.{placeOf, placeAmong};
 ghost use Rattle.table.specs.Calls.{elsewhereAt};
 
 // Whether the word's first place is held, by a member of this number.
@@ -31,6 +31,22 @@ pub(crate) fn place_of(held: u64, members: [Member; 64], source: u32) -> usize
     let mut i: usize = 0;
     while i < 64 {
         if is_held_by(word, members[i].record.source, source) {
+            return i;
+        }
+        word /= 2;
+        i += 1;
+    }
+    64
+}
+
+// The same among the members' source numbers alone, which are fewer bytes to hand on.
+pub fn place_among(held: u64, sources: [u32; 64], source: u32) -> usize
+    ensures { λ r. ⌜ r ≡ placeAmong source held sources ⌝ }
+{
+    let mut word = held;
+    let mut i: usize = 0;
+    while i < 64 {
+        if is_held_by(word, sources[i], source) {
             return i;
         }
         word /= 2;

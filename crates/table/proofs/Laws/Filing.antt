@@ -1,10 +1,10 @@
 -- What each return of a filing answers, from the tests that led there, and that storing it leaves the table that the
 -- call leaves.
-use Prim.Native.Nat.{ℕ, _≤_, _<_}
+use Prim.Native.Nat.{ℕ, _%_, _≤_, _<_}
 use mathlib.Core.Bool.{Bool, true, false, cond}
 use mathlib.Core.Path.{_≡_, refl, sym, ap, _∙_}
 use lib.Dec.{ltb, eqb}
-use lib.ListN.{getD}
+use lib.ListN.{length, getD}
 use native.Mathlib.Omega.{arith}
 use borrow.Author.Tests.{eqb-true, eqb-false, ne-eqb, ltb-true, ltb-false, lt-ltb, le-ltb}
 use Rattle.refusals.specs.Refusals.{otherOrigin}
@@ -24,8 +24,9 @@ use Rattle.table.specs.declared.filing.Filing.{Filing}
 use Rattle.table.specs.Members.{openingOf, placeIn}
 use Rattle.table.specs.Calls.{isMember, numberOf, answered}
 use Rattle.table.specs.Filing.{memberAfter, hasOtherOrigin, knownNumber, knownFiling, isFull}
-use Rattle.table.specs.Filing.{newNumber, newFiling, filingOf, withFiling}
+use Rattle.table.specs.Filing.{newNumber, newFiling, filingOf, filingAt, withFiling}
 use Rattle.table.proofs.Laws.Members.{set-same}
+use Rattle.table.proofs.Laws.Search.{place-within}
 use Rattle.table.proofs.Laws.Cases.{call-refused, call-accepted, report-elsewhere, report-number-there}
 use Rattle.table.proofs.Laws.Cases.{report-tallied, filed-again, filed-anew}
 
@@ -188,3 +189,37 @@ module _ (t : Table) (x : Record) (at : Reading) where
       go false k =
           let g : f ≡ newFiling (openingOf t) (t .held) (getD (t .members) 0 nobody) x at = rw k at e in
           rw g (stored-new (ltb-false place 64 k) _ refl)
+
+-- ---- a filing by a place that was searched for
+
+module _ (o : Opening) (held place : ℕ) (there : Member) (x : Record) (at : Reading) (f : Filing) where
+  pub filed-at-known :
+      place < 64 → f ≡ knownFiling o held place there x at
+      → (f ≡ filingAt o held place there x at) × (f .place < 64)
+  filed-at-known h e =
+      let same : f .place ≡ place = ap (λ (g : Filing). g .place) e in
+      (rw (lt-ltb place 64 h) e, omega (arith, same, h))
+
+  pub filed-at-new :
+      64 ≤ place → f ≡ newFiling o held there x at → f .place < 64
+      → (f ≡ filingAt o held place there x at) × (f .place < 64)
+  filed-at-new h e less = (rw (le-ltb place 64 h) e, less)
+
+-- at the number's place, with who stands there, it is the table's filing
+pub filing-searched :
+    (t : Table) (x : Record) (at : Reading) (place slot : ℕ) (there : Member) → length (t .members) ≡ 64
+    → place ≡ placeIn t (x .source) → slot ≡ place % 64 → there ≡ getD (t .members) slot nobody
+    → filingAt (openingOf t) (t .held) place there x at ≡ filingOf t x at
+unfolding filingOf
+filing-searched t x at place slot there long e s m = go (ltb place 64) refl
+  where
+    go :
+        (b : Bool) → ltb place 64 ≡ b
+        → filingAt (openingOf t) (t .held) place there x at ≡ filingOf t x at
+    go true b =
+        let less : place < 64 = ltb-true place 64 b in
+        let here : slot ≡ place = omega (arith, s, less) in
+        rw (b, m, here, e, rw e at b) refl
+    go false b =
+        let first : slot ≡ 0 = omega (arith, s, e, ltb-false place 64 b, place-within t (x .source) long) in
+        rw (b, m, first, rw e at b) refl

@@ -1,70 +1,120 @@
--- Laws of the search for a number's place, step by step.
-use Prim.Native.Nat.{ℕ, suc, _+_, _/_, _≤_, _<_}
-use mathlib.Core.Bool.{Bool, true, false, not, _&&_}
-use mathlib.Core.Path.{_≡_, refl, ap}
+-- Laws of the search for a number's place, step by step: among source numbers, and so among members.
+use Prim.Native.Nat.{ℕ, suc, _+_, _/_, _%_, _≤_, _<_}
+use mathlib.Core.Bool.{Bool, true, false, not, cond, _&&_}
+use mathlib.Core.List.{List, [], _∷_, map}
+use mathlib.Core.Path.{_≡_, refl, sym, ap, _∙_}
 use lib.Dec.{eqb}
-use lib.ListN.{length, getD, drop, drop-of-length-le}
+use lib.ListN.{length, getD, set, drop, length-map, drop-of-length-le, List·getD-map}
 use lib.Seq.{drop-cons}
 use native.Mathlib.Numerals.{add-one}
 use native.Mathlib.Omega.{arith}
 use Rattle.places.specs.Places.{isFree}
-use Rattle.register.specs.Register.{Rows}
+use Rattle.register.specs.declared.Member.{Member}
+use Rattle.register.specs.Register.{Rows, hasNumber}
 use Rattle.register.specs.Tallies.{Members, recordsOf}
 use Rattle.register.proofs.Tallies.{length-rows}
-use Rattle.choosing.specs.Marked.{nowhere, nobody}
-use Rattle.choosing.proofs.Laws.Marked.{row-at}
-use Rattle.table.specs.Members.{placeOf}
+use Rattle.choosing.specs.Marked.{nobody}
+use Rattle.table.specs.declared.Table.{Table}
+use Rattle.table.specs.Members.{placeOf, sourcesOf, placeAmong, recordsIn, placeIn}
 
 -- whether the word's first place is held, by a member of this number
 abbrev pub isHeldBy : ℕ → ℕ → ℕ → Bool
 isHeldBy word number source = not (isFree word) && eqb number source
 
 place-here :
-    (source word : ℕ) → (ms : Rows) → (i : ℕ) → i < length ms →
-    isHeldBy word (getD ms i nowhere .source) source ≡ true →
-    placeOf source word (drop i ms) ≡ 0
-unfolding placeOf
-place-here source word ms i h e = rw (drop-cons ms i nowhere h, e) refl
+    (source word : ℕ) (numbers : List ℕ) (i : ℕ) → i < length numbers → isHeldBy word (getD numbers i 0) source ≡ true →
+    placeAmong source word (drop i numbers) ≡ 0
+unfolding placeAmong
+place-here source word numbers i h e = rw (drop-cons numbers i 0 h, e) refl
 
 place-beyond :
-    (source word : ℕ) → (ms : Rows) → (i : ℕ) → i < length ms →
-    isHeldBy word (getD ms i nowhere .source) source ≡ false →
-    placeOf source word (drop i ms) ≡ 1 + placeOf source (word / 2) (drop (suc i) ms)
-unfolding placeOf
-place-beyond source word ms i h e = rw (drop-cons ms i nowhere h, e) refl
+    (source word : ℕ) (numbers : List ℕ) (i : ℕ) → i < length numbers →
+    isHeldBy word (getD numbers i 0) source ≡ false →
+    placeAmong source word (drop i numbers) ≡ 1 + placeAmong source (word / 2) (drop (suc i) numbers)
+unfolding placeAmong
+place-beyond source word numbers i h e = rw (drop-cons numbers i 0 h, e) refl
 
-place-end : (source word : ℕ) → (ms : Rows) → (i : ℕ) → length ms ≤ i → placeOf source word (drop i ms) ≡ 0
-unfolding placeOf
-place-end source word ms i h = rw (drop-of-length-le ms h) refl
+place-end :
+    (source word : ℕ) (numbers : List ℕ) (i : ℕ) → length numbers ≤ i → placeAmong source word (drop i numbers) ≡ 0
+unfolding placeAmong
+place-end source word numbers i h = rw (drop-of-length-le numbers h) refl
+
+-- ---- along 64 source numbers
+
+-- what the search keeps: the places passed and the place among the rest make up the place
+abbrev pub SearchingAmong : ℕ → ℕ → List ℕ → ℕ → ℕ → Type 0
+SearchingAmong source held numbers word i =
+    (i ≤ 64) × (i + placeAmong source word (drop i numbers) ≡ placeAmong source held numbers)
+
+module _
+    (source held : ℕ) (numbers : List ℕ) (long : length numbers ≡ 64) (word i : ℕ)
+    (inv : SearchingAmong source held numbers word i) where
+  -- the number is found, or this place is passed
+  pub among-found : i < 64 → isHeldBy word (getD numbers i 0) source ≡ true → i ≡ placeAmong source held numbers
+  among-found h e =
+      let here : _ = place-here source word numbers i (omega (arith, h, long)) e in
+      omega (arith, here, inv .1)
+
+  pub among-next :
+      i < 64 → isHeldBy word (getD numbers i 0) source ≡ false → SearchingAmong source held numbers (word / 2) (i + 1)
+  among-next h e =
+      let beyond : _ = place-beyond source word numbers i (omega (arith, h, long)) e in
+      let next : _ = ap (λ (k : ℕ). placeAmong source (word / 2) (drop k numbers)) (add-one i) in
+      (omega arith, omega (arith, beyond, next, inv .1))
+
+  -- no place is left
+  pub among-none : 64 ≤ i → placeAmong source held numbers ≡ 64
+  among-none h =
+      let none : _ = place-end source word numbers i (omega (arith, h, long)) in
+      omega (arith, none, h, inv .0, inv .1)
 
 -- ---- along the 64 places of a table
 
--- what the search keeps: the places passed and the place among the rest make up the place
+-- the place among the members' source numbers is the place among the members
+pub place-among :
+    (source word : ℕ) (ms : Members) → placeAmong source word (sourcesOf ms) ≡ placeOf source word (recordsOf ms)
+unfolding placeAmong placeOf recordsOf
+place-among source word [] = refl
+place-among source word (m ∷ ms) =
+    ap (λ (n : ℕ). cond (isHeldBy word (m .«record» .source) source) 0 (1 + n)) (place-among source (word / 2) ms)
+
 abbrev pub Searching : ℕ → ℕ → Members → ℕ → ℕ → Type 0
-Searching source held ms word i =
-    (i ≤ 64) × (i + placeOf source word (drop i (recordsOf ms)) ≡ placeOf source held (recordsOf ms))
+Searching source held ms word i = SearchingAmong source held (sourcesOf ms) word i
 
 module _
     (source held : ℕ) (ms : Members) (long : length ms ≡ 64) (word i : ℕ) (inv : Searching source held ms word i) where
-  -- the number's member is found, or this place is passed
+  long-too : length (sourcesOf ms) ≡ 64
+  long-too = length-map ms (λ (m : Member). m .«record» .source) ∙ long
+
+  at-place : {b : Bool} → isHeldBy word (getD ms i nobody .«record» .source) source ≡ b
+      → isHeldBy word (getD (sourcesOf ms) i 0) source ≡ b
+  at-place e =
+      ap (λ (n : ℕ). isHeldBy word n source) (List·getD-map (λ (m : Member). m .«record» .source) ms i nobody) ∙ e
+
   pub search-found :
       i < 64 → isHeldBy word (getD ms i nobody .«record» .source) source ≡ true → i ≡ placeOf source held (recordsOf ms)
   search-found h e =
-      let here : _ =
-      place-here source word (recordsOf ms) i (omega (arith, h, long, length-rows ms)) (rw (row-at ms i) e) in
-      omega (arith, here, inv .1)
+      among-found source held (sourcesOf ms) long-too word i inv h (at-place e) ∙ place-among source held ms
 
   pub search-next :
       i < 64 → isHeldBy word (getD ms i nobody .«record» .source) source ≡ false →
       Searching source held ms (word / 2) (i + 1)
-  search-next h e =
-      let beyond : _ =
-      place-beyond source word (recordsOf ms) i (omega (arith, h, long, length-rows ms)) (rw (row-at ms i) e) in
-      let next : _ = ap (λ (k : ℕ). placeOf source (word / 2) (drop k (recordsOf ms))) (add-one i) in
-      (omega arith, omega (arith, beyond, next, inv .1))
+  search-next h e = among-next source held (sourcesOf ms) long-too word i inv h (at-place e)
 
-  -- no place is left
   pub search-none : 64 ≤ i → placeOf source held (recordsOf ms) ≡ 64
   search-none h =
-      let none : _ = place-end source word (recordsOf ms) i (omega (arith, h, long, length-rows ms)) in
-      omega (arith, none, h, inv .0, inv .1)
+      sym (place-among source held ms) ∙ among-none source held (sourcesOf ms) long-too word i inv h
+
+-- where no member has the number, the place is behind the last
+place-of-within : (source word : ℕ) (ms : Rows) → placeOf source word ms ≤ length ms
+unfolding placeOf
+place-of-within source word [] = omega arith
+place-of-within source word (m ∷ ms) = go (not (isFree word) && hasNumber source m) (place-of-within source (word / 2) ms)
+  where
+    go : (b : Bool) {n : ℕ} → n ≤ length ms → cond b 0 (1 + n) ≤ suc (length ms)
+    go true h = omega arith
+    go false h = omega arith
+
+pub place-within : (t : Table) (source : ℕ) → length (t .members) ≡ 64 → placeIn t source ≤ 64
+place-within t source long =
+    omega (arith, place-of-within source (t .held) (recordsIn t), length-rows (t .members), long)
