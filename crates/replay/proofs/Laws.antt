@@ -2,3 +2,4 @@ pub mod Layout
 pub mod Rows
 pub mod Left
 pub mod Entries
+pub mod Calls

@@ -288,7 +288,8 @@ reached o calls taken ranges = record { taken = taken; ranges = ranges; table-is
 
 -- ---- calls after calls
 
-table-append : (t : Table) (calls more : List Call) → tableFrom t (calls ++ more) ≡ tableFrom (tableFrom t calls) more
+pub table-append :
+    (t : Table) (calls more : List Call) → tableFrom t (calls ++ more) ≡ tableFrom (tableFrom t calls) more
 unfolding tableFrom
 table-append t [] more = refl
 table-append t (call ∷ calls) more = table-append (answered t call .table) calls more
