@@ -3,3 +3,4 @@ pub mod Rows
 pub mod Left
 pub mod Entries
 pub mod Calls
+pub mod Running

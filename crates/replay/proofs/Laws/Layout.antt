@@ -9,7 +9,8 @@ use lib.Seq.{paste, drop-length}
 use native.Mathlib.Omega.{arith}
 use borrow.Author.Tests.{lt-ltb, le-ltb, ltb-false, eqb-true}
 use Rattle.replay.specs.Recording.{recordingHeadSize, entryCount, entrySize, entryPlace, bodyLength, recordingLimit, entryLimit}
-use Rattle.replay.specs.Recording.{RecordedDatagram, entryReading, entryOrigin, entriesFrom, bodiesEnd, isBadLayout}
+use Rattle.replay.specs.Recording.{RecordedDatagram, entryReading, entryOrigin, entriesFrom, bodiesEnd}
+use Rattle.replay.specs.Recording.{entriesIn, isBadLayout}
 
 -- a copy over all of a list is what was copied
 pub paste-all : (l s : List ℕ) (n : ℕ) → n ≡ length l → paste l 0 s n ≡ take n s
@@ -92,6 +93,15 @@ pub entries-count : (f : List ℕ) (n p body : ℕ) → length (entriesFrom f n 
 unfolding entriesFrom
 entries-count f zero p body = refl
 entries-count f (suc n) p body = ap suc (entries-count f n (p + entrySize) (body + bodyLength f p))
+
+pub entries-in :
+    (f : List ℕ) (n : ℕ) → n ≡ entryCount f → entriesFrom f n (entryPlace 0) (entryPlace n) ≡ entriesIn f
+unfolding entriesIn
+entries-in f n e = ap (λ (k : ℕ). entriesFrom f k (entryPlace 0) (entryPlace k)) e
+
+pub entries-in-count : (f : List ℕ) → length (entriesIn f) ≡ entryCount f
+unfolding entriesIn
+entries-in-count f = entries-count f (entryCount f) (entryPlace 0) (entryPlace (entryCount f))
 
 -- ---- isBadLayout
 

@@ -1,193 +1,245 @@
+-- One item after the other, and one entry after the other: `Running` says what is left. The measure counts the entries
+-- left, each as more than a datagram has items, and the items left.
+use Prim.Native.Nat.{ℕ, _+_, _-_, _*_, _<_}
+use mathlib.Core.Path.{_≡_, refl, sym, ap, _∙_}
+use native.Mathlib.Omega.{arith}
 use borrow.Author.Needs.{needs}
+use Rattle.idms.specs.declared.Item.{Item}
+use Rattle.table.specs.declared.Chosen.{Chosen}
+use Rattle.replay.specs.declared.steps.Next.{Next}
+use Rattle.replay.specs.Steps.{leftCount}
+use Rattle.replay.proofs.Laws.Layout.{good-layout}
+use Rattle.replay.proofs.Laws.Left.{left-item}
+use Rattle.replay.proofs.Laws.Entries.{begins-few}
+use Rattle.replay.proofs.Laws.Running.{listed-at, not-last, bodies-whole, listed-inside}
+use Rattle.replay.proofs.Laws.Running.{Running, running-inside, running-start, running-report}
+use Rattle.replay.proofs.Laws.Running.{running-farewell, running-settings, running-next, running-end}
 use Rattle.replay.proofs.run_entries.Statement.{statement}
 use Rattle.replay.proofs.run_entries.Tie as tie
-use Rattle.replay.proofs.run_entries.Reads as reads
-use Rattle.replay.proofs.run_entries.Lts as lts
-use Rattle.replay.proofs.layout.entry_at.Reads as entry-at-reads
-use Rattle.replay.proofs.layout.entry_place.Reads as entry-place-reads
-use Rattle.replay.proofs.steps.first_row.Reads as first-row-reads
-use Rattle.replay.proofs.steps.next_of.Reads as next-of-reads
-use Rattle.replay.proofs.steps.open_entry.Reads as open-entry-reads
-use Rattle.replay.proofs.steps.put_row.Reads as put-row-reads
-use Rattle.replay.proofs.steps.row_after.Reads as row-after-reads
-use Rattle.table.proofs.Table.choose.Reads as choose-reads
-use Rattle.table.proofs.Table.farewell.Reads as farewell-reads
-use Rattle.table.proofs.filing_at.Reads as filing-at-reads
-use Rattle.table.proofs.record_of.Reads as record-of-reads
-use Rattle.table.proofs.place_among.Reads as place-among-reads
 
 abbrev Inv-loop : tie.InvT-loop
-Inv-loop f n rows₀ table₀ sources₀ i₀ entry₀ left₀ row₀ rows table sources i entry left row = ?
+Inv-loop f n rows₀ table₀ sources₀ i₀ entry₀ left₀ row₀ rows table sources i entry left row =
+    Running f n table₀ rows₀ table sources rows i entry left row
 
 abbrev μ-loop : tie.MeasureT-loop
-μ-loop f n rows₀ table₀ sources₀ i₀ entry₀ left₀ row₀ rows table sources i entry left row = ?
+μ-loop f n rows₀ table₀ sources₀ i₀ entry₀ left₀ row₀ rows table sources i entry left row =
+    (n - i) * 1024 + leftCount left
 
--- src/lib.rt:55:33
 entry-place-requires : tie.Need-entry-place-requires Inv-loop μ-loop
 entry-place-requires c κs = search needs
 
--- src/lib.rt:55:49
 entry-place-requires-2 : tie.Need-entry-place-requires-2 Inv-loop μ-loop
-entry-place-requires-2 c κs = search needs
+entry-place-requires-2 c κs =
+    let pre = c .before .before .before .pre in
+    omega (arith, pre .2, good-layout _ (pre .1) .few)
 
--- src/lib.rt:55:9
 entry-at-requires : tie.Need-entry-at-requires Inv-loop μ-loop
-entry-at-requires c κs = search needs
+entry-at-requires c κs =
+    let pre = c .before .before .before .before .pre in
+    let good : _ = good-layout _ (pre .1) in
+    let zeroth = c .before .entry-place .ensures in
+    let all = c .entry-place2 .ensures in (
+      omega (arith, zeroth, good .contents, pre .2, pre .3),
+      omega (arith, all, good .contents, pre .2),
+      good .short,
+    )
 
--- src/lib.rt:56:9
 open-entry-requires : tie.Need-open-entry-requires Inv-loop μ-loop
-open-entry-requires c κs = search needs
+open-entry-requires c κs =
+    let start = c .before .before .before .before .before in
+    let f = start .args .f .now in
+    listed-inside f _ 0 _ _ (start .pre .3) (bodies-whole f _ (good-layout f (start .pre .1)) (start .pre .2))
+    (listed-at f _ (c .before .before .entry-place .ensures) (c .before .entry-place2 .ensures) (c .entry-at .ensures))
 
--- src/lib.rt:57:9
 first-row-requires : tie.Need-first-row-requires Inv-loop μ-loop
 first-row-requires c κs = search needs
 
--- src/lib.rt:58:5
 loop-holds : tie.Need-loop-holds Inv-loop μ-loop
-loop-holds c = search needs
+loop-holds c =
+    let start = c .before .before .before .before .before .before .before in
+    let f = start .args .f .now in
+    let pre = start .pre in
+    running-start f _ _ _ _ _ _ (good-layout f (pre .1)) (pre .2) (pre .0) (pre .3) (pre .4)
+    (listed-at f _ (c .before .before .before .before .entry-place .ensures) (c .before .before .before .entry-place2 .ensures)
+    (c .before .before .entry-at .ensures))
+    (c .before .open-entry .ensures) (c .first-row .ensures)
 
--- src/lib.rt:59:15
 next-of-requires : tie.Need-next-of-requires Inv-loop μ-loop
-next-of-requires c κs = search needs
+next-of-requires c κs = running-inside (c .loop .inv)
 
--- src/lib.rt:60:24
 enum-known-item : tie.Need-enum-known-item Inv-loop μ-loop
 enum-known-item c = search needs
 
--- src/lib.rt:64:34
 enum-known-item-2 : tie.Need-enum-known-item-2 Inv-loop μ-loop
 enum-known-item-2 c = search needs
 
--- src/lib.rt:65:29
 record-of-requires : tie.Need-record-of-requires Inv-loop μ-loop
 record-of-requires c κs = search needs
 
--- src/lib.rt:66:29
 place-among-requires : tie.Need-place-among-requires Inv-loop μ-loop
 place-among-requires c κs = search needs
 
--- src/lib.rt:68:37
 mul-there : tie.Need-mul-there Inv-loop μ-loop
 mul-there c = search needs
 
--- src/lib.rt:68:37
 element-copy-out-there : tie.Need-element-copy-out-there Inv-loop μ-loop
 element-copy-out-there c = search needs
 
--- src/lib.rt:69:29
 filing-at-requires : tie.Need-filing-at-requires Inv-loop μ-loop
 filing-at-requires c κs = search needs
 
--- src/lib.rt:81:25
 mul-sources : tie.Need-mul-sources Inv-loop μ-loop
 mul-sources c = search needs
 
--- src/lib.rt:81:25
 array-write-sources : tie.Need-array-write-sources Inv-loop μ-loop
 array-write-sources c = search needs
 
--- src/lib.rt:82:25
 mul-member : tie.Need-mul-member Inv-loop μ-loop
 mul-member c = search needs
 
--- src/lib.rt:82:25
 element-set-from-member : tie.Need-element-set-from-member Inv-loop μ-loop
 element-set-from-member c = search needs
 
--- src/lib.rt:84:25
 row-after-requires : tie.Need-row-after-requires Inv-loop μ-loop
-row-after-requires c κs = search needs
+row-after-requires c κs =
+    omega (arith, c .before .before .before .before .before .before .before .before .before .before .before .before .before .before .loop .inv .few)
 
--- src/lib.rt:86:36
 enum-known-item-3 : tie.Need-enum-known-item-3 Inv-loop μ-loop
 enum-known-item-3 c = search needs
 
--- src/lib.rt:87:29
 farewell-requires : tie.Need-farewell-requires Inv-loop μ-loop
 farewell-requires c κs = search needs
 
--- src/lib.rt:89:25
 row-after-requires-2 : tie.Need-row-after-requires-2 Inv-loop μ-loop
-row-after-requires-2 c κs = search needs
+row-after-requires-2 c κs =
+    omega (arith, c .before .before .before .before .before .before .before .before .before .before .before .loop .inv .few)
 
 enum-told : tie.Need-enum-told Inv-loop μ-loop
 enum-told c = search needs
 
--- src/lib.rt:58:5
 loop-less : tie.Need-loop-less Inv-loop μ-loop
-loop-less c = search needs
+loop-less c =
+    let around = c .before .before .before .before .before .before .before .before .before .before .before .before .before in
+    let next : _ = sym (around .before .next-of .ensures) ∙ c .before .before .before .before .before .before .before .before .before .before .before .before .item .given .1 in
+    omega (arith, left-item _ _ _ _ next .count)
 
--- src/lib.rt:58:5
 loop-again : tie.Need-loop-again Inv-loop μ-loop
-loop-again c = search needs
+loop-again c =
+    let report = c .before .before .before .before .before .before .before in
+    let item = report .before .before .before .before .before in
+    let around = item .before .before in
+    let next : _ =
+    sym (around .next-of .ensures)
+    ∙ item .item .given .1
+    ∙ ap (λ (i : Item). Next.Item i (item .item .given .0 .1 .0)) (report .item2 .given .1) in
+    running-report (around .before .loop .inv) _ _ _ _ (c .before .before .before .before .place-among .ensures) refl (c .before .before .filing-at .ensures .0) _ _ _
+    next (c .before .before .before .before .before .record-of .ensures) (c .row-after .ensures)
 
--- src/lib.rt:58:5
 loop-less-2 : tie.Need-loop-less-2 Inv-loop μ-loop
-loop-less-2 c = search needs
+loop-less-2 c =
+    let around = c .before .before .before .before .before .before .before .before .before .before in
+    let next : _ = sym (around .before .next-of .ensures) ∙ c .before .before .before .before .before .before .before .before .before .item .given .1 in
+    omega (arith, left-item _ _ _ _ next .count)
 
--- src/lib.rt:58:5
 loop-again-2 : tie.Need-loop-again-2 Inv-loop μ-loop
-loop-again-2 c = search needs
+loop-again-2 c =
+    let farewell = c .before .before .before .before in
+    let item = farewell .before .before .before .before .before in
+    let around = item .before .before in
+    let next : _ =
+    sym (around .next-of .ensures)
+    ∙ item .item .given .1
+    ∙ ap (λ (i : Item). Next.Item i (item .item .given .0 .1 .0)) (farewell .item3 .given .1) in
+    running-farewell (around .before .loop .inv) _ _ _ _ next (c .before .before .farewell .ensures) (c .row-after2 .ensures)
 
--- src/lib.rt:58:5
 loop-less-3 : tie.Need-loop-less-3 Inv-loop μ-loop
-loop-less-3 c = search needs
+loop-less-3 c =
+    let around = c .before .before .before .before .before .before in
+    let next : _ = sym (around .before .next-of .ensures) ∙ c .before .before .before .before .before .item .given .1 in
+    omega (arith, left-item _ _ _ _ next .count)
 
--- src/lib.rt:58:5
 loop-again-3 : tie.Need-loop-again-3 Inv-loop μ-loop
-loop-again-3 c = search needs
+loop-again-3 c =
+    let item = c .before .before .before .before .before in
+    let around = item .before .before in
+    let next : _ =
+    sym (around .next-of .ensures)
+    ∙ item .item .given .1
+    ∙ ap (λ (i : Item). Next.Item i (item .item .given .0 .1 .0)) (c .enum-told .given .1) in
+    running-settings (around .before .loop .inv) _ _ next
 
--- src/lib.rt:96:25
 enum-told-2 : tie.Need-enum-told-2 Inv-loop μ-loop
 enum-told-2 c = search needs
 
--- src/lib.rt:96:31
 mul-put-row : tie.Need-mul-put-row Inv-loop μ-loop
 mul-put-row c = search needs
 
--- src/lib.rt:96:17
 put-row-requires : tie.Need-put-row-requires Inv-loop μ-loop
 put-row-requires c κs = search needs
 
--- src/lib.rt:97:17
 add-i : tie.Need-add-i Inv-loop μ-loop
 add-i c = search needs
 
--- src/lib.rt:100:25
 choose-requires : tie.Need-choose-requires Inv-loop μ-loop
 choose-requires c κs = search needs
 
--- src/lib.rt:101:21
 same-length : tie.Need-same-length Inv-loop μ-loop
 same-length c = search needs
 
--- src/lib.rt:101:21
 returns : tie.Need-returns Inv-loop μ-loop
-returns c = search needs
+returns c =
+    let last = c .before .before in
+    let over = last .before .before .before .before .before in
+    let around = over .before .before in
+    let pre = c .before .before .before .before .before .before .before .before .before .before .before .before .before .before .before .before .before .before .pre in
+    let ended : _ =
+    running-end (around .before .loop .inv) _ (sym (around .next-of .ensures) ∙ over .enum-told2 .given .1)
+    (last .before .before .before .put-row .ensures) (last .if1 .taken) (pre .2) (pre .4) in
+    (ap (λ (chosen : Chosen). chosen .choice) (c .choose .ensures) ∙ ended .0, ended .1)
 
--- src/lib.rt:103:37
 entry-place-requires-3 : tie.Need-entry-place-requires-3 Inv-loop μ-loop
-entry-place-requires-3 c κs = search needs
+entry-place-requires-3 c κs =
+    let pre = c .before .before .before .before .before .before .before .before .before .before .before .before .before .before .before .before .pre in
+    omega (arith, pre .2, good-layout _ (pre .1) .few, c .before .before .before .before .before .before .before .before .loop .inv .inside)
 
--- src/lib.rt:103:17
 entry-at-requires-2 : tie.Need-entry-at-requires-2 Inv-loop μ-loop
-entry-at-requires-2 c κs = search needs
+entry-at-requires-2 c κs =
+    let last = c .before in
+    let l = last .before .before .before .before .before .before .before .before .loop in
+    let pre = c .before .before .before .before .before .before .before .before .before .before .before .before .before .before .before .before .before .pre in
+    let good : _ = good-layout _ (pre .1) in
+    let less : _ = not-last _ _ (l .inv .inside) (last .if1 .left) in (
+      omega (arith, c .entry-place3 .ensures, good .contents, pre .2, less),
+      running-inside (l .inv) .1,
+      good .short,
+    )
 
--- src/lib.rt:104:17
 open-entry-requires-2 : tie.Need-open-entry-requires-2 Inv-loop μ-loop
-open-entry-requires-2 c κs = search needs
+open-entry-requires-2 c κs =
+    let last = c .before .before in
+    let l = last .before .before .before .before .before .before .before .before .loop in
+    let f = c .before .before .before .before .before .before .before .before .before .before .before .before .before .before .before .before .before .before .args .f .now in
+    listed-inside f _ _ _ _ (not-last _ _ (l .inv .inside) (last .if1 .left)) (l .inv .bodies)
+    (listed-at f _ (c .before .entry-place3 .ensures) refl (c .entry-at2 .ensures))
 
--- src/lib.rt:105:17
 first-row-requires-2 : tie.Need-first-row-requires-2 Inv-loop μ-loop
 first-row-requires-2 c κs = search needs
 
--- src/lib.rt:58:5
 loop-less-4 : tie.Need-loop-less-4 Inv-loop μ-loop
-loop-less-4 c = search needs
+loop-less-4 c =
+    let l = c .before .before .before .before .before .before .before .before .before .before .before .before .loop in
+    omega (arith, l .inv .inside, begins-few _ _ (c .before .open-entry2 .ensures))
 
--- src/lib.rt:58:5
 loop-again-4 : tie.Need-loop-again-4 Inv-loop μ-loop
-loop-again-4 c = search needs
+loop-again-4 c =
+    let last = c .before .before .before .before in
+    let over = last .before .before .before .before .before in
+    let around = over .before .before in
+    let l = around .before .loop in
+    running-next (l .inv) _ (sym (around .next-of .ensures) ∙ over .enum-told2 .given .1)
+    (last .before .before .before .put-row .ensures) _ _ _ (not-last _ _ (l .inv .inside) (last .if1 .left))
+    (listed-at _ _ (c .before .before .before .entry-place3 .ensures) refl (c .before .before .entry-at2 .ensures))
+    (c .before .open-entry2 .ensures) (c .first-row2 .ensures)
 
 pub run-entries-spec : {M : Type 1} → statement M
 run-entries-spec =

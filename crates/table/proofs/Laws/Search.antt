@@ -1,20 +1,23 @@
 -- Laws of the search for a number's place, step by step: among source numbers, and so among members.
-use Prim.Native.Nat.{ℕ, suc, _+_, _/_, _%_, _≤_, _<_}
+use Prim.Native.Nat.{ℕ, zero, suc, _+_, _/_, _%_, _≤_, _<_}
 use mathlib.Core.Bool.{Bool, true, false, not, cond, _&&_}
 use mathlib.Core.List.{List, [], _∷_, map}
 use mathlib.Core.Path.{_≡_, refl, sym, ap, _∙_}
 use lib.Dec.{eqb}
 use lib.ListN.{length, getD, set, drop, length-map, drop-of-length-le, List·getD-map}
-use lib.Seq.{drop-cons}
+use lib.Seq.{drop-cons, map-set-same}
 use native.Mathlib.Numerals.{add-one}
 use native.Mathlib.Omega.{arith}
 use Rattle.places.specs.Places.{isFree}
 use Rattle.register.specs.declared.Member.{Member}
-use Rattle.register.specs.Register.{Rows, hasNumber}
+use Rattle.origin.specs.declared.Origin.{Origin}
+use Rattle.refusals.specs.Refusals.{otherOrigin}
+use Rattle.register.specs.Register.{Rows, Call, hasNumber}
 use Rattle.register.specs.Tallies.{Members, recordsOf}
 use Rattle.register.proofs.Tallies.{length-rows}
 use Rattle.choosing.specs.Marked.{nobody}
 use Rattle.table.specs.declared.Table.{Table}
+use Rattle.table.specs.Calls.{numberOf, refusedBy, answered}
 use Rattle.table.specs.Members.{placeOf, sourcesOf, placeAmong, recordsIn, placeIn}
 
 -- whether the word's first place is held, by a member of this number
@@ -70,6 +73,9 @@ module _
 
 -- ---- along the 64 places of a table
 
+pub sources-long : (ms : Members) → length (sourcesOf ms) ≡ length ms
+sources-long ms = length-map ms (λ (m : Member). m .«record» .source)
+
 -- the place among the members' source numbers is the place among the members
 pub place-among :
     (source word : ℕ) (ms : Members) → placeAmong source word (sourcesOf ms) ≡ placeOf source word (recordsOf ms)
@@ -84,7 +90,7 @@ Searching source held ms word i = SearchingAmong source held (sourcesOf ms) word
 module _
     (source held : ℕ) (ms : Members) (long : length ms ≡ 64) (word i : ℕ) (inv : Searching source held ms word i) where
   long-too : length (sourcesOf ms) ≡ 64
-  long-too = length-map ms (λ (m : Member). m .«record» .source) ∙ long
+  long-too = sources-long ms ∙ long
 
   at-place : {b : Bool} → isHeldBy word (getD ms i nobody .«record» .source) source ≡ b
       → isHeldBy word (getD (sourcesOf ms) i 0) source ≡ b
@@ -118,3 +124,29 @@ place-of-within source word (m ∷ ms) = go (not (isFree word) && hasNumber sour
 pub place-within : (t : Table) (source : ℕ) → length (t .members) ≡ 64 → placeIn t source ≤ 64
 place-within t source long =
     omega (arith, place-of-within source (t .held) (recordsIn t), length-rows (t .members), long)
+
+-- ---- the members' source numbers
+
+pub sources-set :
+    (ms : Members) (place : ℕ) (m : Member) → sourcesOf (set ms place m) ≡ set (sourcesOf ms) place (m .«record» .source)
+sources-set [] place m = refl
+sources-set (first ∷ ms) zero m = refl
+sources-set (first ∷ ms) (suc place) m =
+    ap (λ (numbers : List ℕ). first .«record» .source ∷ numbers) (sources-set ms place m)
+
+-- a farewell leaves each where it stands
+module _ (t : Table) (source : ℕ) (origin : Origin) where
+  abbrev leaving : Call
+  leaving = Call.farewell source origin
+
+  pub sources-after-farewell : sourcesOf (answered t leaving .table .members) ≡ sourcesOf (t .members)
+  unfolding answered refusedBy
+  sources-after-farewell = go (eqb (numberOf t leaving) 0) refl (eqb (numberOf t leaving) otherOrigin) refl
+    where
+      go :
+          (a : Bool) → eqb (numberOf t leaving) 0 ≡ a → (b : Bool) → eqb (numberOf t leaving) otherOrigin ≡ b
+          → sourcesOf (answered t leaving .table .members) ≡ sourcesOf (t .members)
+      go true a b f = rw a refl
+      go false a true f =
+          rw (a, f) (map-set-same (λ (m : Member). m .«record» .source) (t .members) (placeIn t source) _ nobody refl)
+      go false a false f = rw (a, f) refl
