@@ -4,3 +4,4 @@ pub mod Left
 pub mod Entries
 pub mod Calls
 pub mod Running
+pub mod Replayed

@@ -37,7 +37,7 @@ pub record ItemLeft (d : List ℕ) (left : Opened) (item : Item) (rest : Opened)
   pub items : leftIn d left ≡ record { place = place; item = item } ∷ leftIn d rest
   pub count : leftCount left ≡ leftCount rest + 1
 
-positive : (n : ℕ) → (n ≡ 0 → ⊥) → 0 < n
+pub positive : (n : ℕ) → (n ≡ 0 → ⊥) → 0 < n
 positive zero h = absurd (h refl)
 positive (suc n) h = omega arith
 
