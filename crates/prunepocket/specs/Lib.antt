@@ -2,3 +2,4 @@ pub mod Answers
 pub mod Messages
 pub mod SiteFile
 pub mod Following
+pub mod Recordings

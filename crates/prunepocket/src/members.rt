@@ -123,7 +123,7 @@ pub extern "C" fn prunepocket_member_at(t: Table, place: usize) -> Place
 }
 
 // The target that stands for none.
-fn no_target() -> Target
+pub(crate) fn no_target() -> Target
     ensures { λ r. ⌜ r ≡ noTarget ⌝ }
 {
     Target {
