@@ -1,16 +1,14 @@
--- What the code holds while it takes an entry: where its body lies, what is left of its items, and its row so far.
-use Prim.Native.Nat.{ℕ, suc, zero, _+_, _-_}
+-- What the code holds while it takes an entry: where its body lies, how many of its items are left, and its row so far.
+use Prim.Native.Nat.{ℕ, _+_, _-_}
 use mathlib.Core.List.{List, [], _∷_}
 use mathlib.Core.Bool.{cond}
 use lib.Dec.{eqb}
 use lib.ListN.{take, drop}
-use Rattle.idms.specs.declared.Placed.{Placed}
+use Rattle.datagram.specs.declared.Count.{Count}
 use Rattle.rtcp.specs.declared.cursor.Cursor.{Cursor}
-use Rattle.rtcp.specs.declared.cursor.Opened.{Opened}
 use Rattle.rtcp.specs.declared.cursor.Step.{Step}
-use Rattle.rtcp.specs.Cursor.{nextOf, given}
+use Rattle.rtcp.specs.Cursor.{nextOf}
 use Rattle.replay.specs.declared.layout.Listed.{Listed}
-use Rattle.replay.specs.declared.steps.Next.{Next}
 use Rattle.replay.specs.declared.steps.Row.{Row}
 use Rattle.replay.specs.Recording.{entryReading, entryOrigin, bodyLength}
 use Rattle.replay.specs.Replay.{acceptedIn, firstRefusal}
@@ -24,32 +22,23 @@ listedAt f p body =
 abbrev pub datagramOf : List ℕ → Listed → List ℕ
 datagramOf f entry = take (entry .end - entry .body) (drop (entry .body) f)
 
--- ---- what is left of a datagram
+-- ---- its items
 
--- by what its cursor gives
-abbrev pub nextStep : ℕ → Step → Next
-nextStep n Step.End = Next.Over
-nextStep n (Step.Item x next) = Next.Item (x .item) (Opened.Items (n - 1) next)
+-- the next one, where so many are left behind the cursor
+unfoldable pub nextIn : List ℕ → ℕ → Cursor → Step
+nextIn d left c = cond (eqb left 0) Step.End (nextOf d c)
 
-unfoldable pub nextIn : List ℕ → Opened → Next
-nextIn d (Opened.Refused r) = Next.Over
-nextIn d (Opened.Items n c) = cond (eqb n 0) Next.Over (nextStep n (nextOf d c))
-
--- its items
-unfoldable pub leftIn : List ℕ → Opened → List Placed
-leftIn d (Opened.Refused r) = []
-leftIn d (Opened.Items n c) = given n d c
-
--- at most as many as this
-abbrev pub leftCount : Opened → ℕ
-leftCount (Opened.Refused r) = 0
-leftCount (Opened.Items n c) = n
+-- how many are to be taken
+abbrev pub itemsIn : Count → ℕ
+itemsIn (Count.Items n) = n
+itemsIn (Count.Refused r) = 0
 
 -- ---- a row so far
 
-unfoldable pub firstRow : Opened → Row
-firstRow (Opened.Items n c) = record { items = n; accepted = 0; number = 0 }
-firstRow (Opened.Refused r) = record { items = 0; accepted = 0; number = r .number }
+-- before the first item
+unfoldable pub firstRow : Count → Row
+firstRow (Count.Items n) = record { items = n; accepted = 0; number = 0 }
+firstRow (Count.Refused r) = record { items = 0; accepted = 0; number = r .number }
 
 -- the first of two numbers that is not 0, if one is not
 abbrev pub firstOf : ℕ → ℕ → ℕ

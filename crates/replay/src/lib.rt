@@ -12,10 +12,12 @@ use refusals::BAD_LAYOUT;
 use refusals::NONE_COUNTED;
 use refusals::SHORT_BUFFER;
 use register::Choice;
-use steps::Next;
+use rtcp::Step;
+use rtcp::first_cursor;
+use steps::count_entry;
 use steps::first_row;
+use steps::items_in;
 use steps::next_of;
-use steps::open_entry;
 use steps::put_row;
 use steps::row_after;
 use table::Table;
@@ -53,17 +55,22 @@ fn run_entries(t: Table, f: &[u8], n: usize, rows: &mut [u64]) -> Choice
     let mut sources = [0u32; 64];
     let mut i: usize = 0;
     let mut entry = entry_at(f, entry_place(0), entry_place(n));
-    let mut left = open_entry(f, entry);
-    let mut row = first_row(left);
+    let first = count_entry(f, entry);
+    let mut left = items_in(first);
+    let mut row = first_row(first);
+    let mut cursor = first_cursor();
     loop {
-        match next_of(f, entry, left) {
-            Next::Item(item, rest) => {
+        match next_of(f, entry, left, cursor) {
+            Step::Item(x, next) => {
+                let item = x.item;
                 let origin = entry.origin;
                 let at = entry.at;
+                cursor = next;
+                left -= 1;
                 match item {
                     Item::Report(report) => {
-                        let x = record_of(report, origin);
-                        let found = place_among(table.held, sources, x.source);
+                        let record = record_of(report, origin);
+                        let found = place_among(table.held, sources, record.source);
                         let slot = found % 64;
                         let there = table.members[slot];
                         let filing = filing_at(
@@ -73,7 +80,7 @@ fn run_entries(t: Table, f: &[u8], n: usize, rows: &mut [u64]) -> Choice
                             table.held,
                             found,
                             there,
-                            x,
+                            record,
                             at,
                         );
                         let place = filing.place;
@@ -90,9 +97,8 @@ fn run_entries(t: Table, f: &[u8], n: usize, rows: &mut [u64]) -> Choice
                     }
                     Item::Settings(_) => {}
                 }
-                left = rest;
             }
-            Next::Over => {
+            Step::End => {
                 put_row(rows, ROW_LENGTH * i, row);
                 i += 1;
                 if i == n {
@@ -101,8 +107,10 @@ fn run_entries(t: Table, f: &[u8], n: usize, rows: &mut [u64]) -> Choice
                     return chosen.choice;
                 }
                 entry = entry_at(f, entry_place(i), entry.end);
-                left = open_entry(f, entry);
-                row = first_row(left);
+                let count = count_entry(f, entry);
+                left = items_in(count);
+                row = first_row(count);
+                cursor = first_cursor();
             }
         }
     }

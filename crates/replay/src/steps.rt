@@ -1,17 +1,17 @@
-// One item of an entry, and the entry's row as far as its items were taken.
+// An entry's datagram, item by item, and the entry's row as far as its items were taken.
 use crate::layout::Listed;
-use idms::Item;
-use rtcp::Opened;
+use rtcp::Count;
+use rtcp::Cursor;
 use rtcp::Step;
+use rtcp::count_items;
 use rtcp::next_item;
-use rtcp::open_datagram;
 ghost use mathlib.Core.Path.{_≡_};
 ghost use Prim.Native.Nat.{_+_, _≤_, _<_};
 ghost use lib.ListN.{length};
 ghost use lib.Seq.{sets};
 ghost use mathlib.Core.Bool.{false};
-ghost use Rattle.rtcp.specs.Answers.{cursorOn};
-ghost use Rattle.replay.specs.Steps.{datagramOf, nextIn, firstRow, rowAfter, cellsOf};
+ghost use Rattle.datagram.specs.Answers.{itemCount};
+ghost use Rattle.replay.specs.Steps.{datagramOf, nextIn, itemsIn, firstRow, rowAfter, cellsOf};
 
 // How many items there are, how many of those so far were accepted, and the first refusal so far, or 0.
 pub(crate) struct Row {
@@ -20,57 +20,50 @@ pub(crate) struct Row {
     number: u64,
 }
 
-// What comes next of an entry: an item and what is left behind it, or no more.
-pub(crate) enum Next {
-    Item(Item, Opened),
-    Over,
-}
-
-// Checks an entry's datagram, and puts a cursor before its first item. Reduced size is off.
-pub(crate) fn open_entry(f: &[u8], entry: Listed) -> Opened
+// How many items an entry's datagram has, or its refusal. Reduced size is off.
+pub(crate) fn count_entry(f: &[u8], entry: Listed) -> Count
     requires { ⌜ (entry .body ≤ entry .end) × (entry .end ≤ length (now f)) ⌝ }
-    ensures { λ r. ⌜ r ≡ cursorOn false (datagramOf (now (f .entry)) entry) ⌝ }
+    ensures { λ r. ⌜ r ≡ itemCount false (datagramOf (now (f .entry)) entry) ⌝ }
 {
     let body = entry.body;
     let end = entry.end;
-    open_datagram(&f[body..end], false)
+    count_items(&f[body..end], false)
 }
 
-// The next of what is left of an entry's datagram.
-pub(crate) fn next_of(f: &[u8], entry: Listed, left: Opened) -> Next
+// The next item of an entry's datagram, of which so many are left behind the cursor.
+pub(crate) fn next_of(f: &[u8], entry: Listed, left: usize, cursor: Cursor) -> Step
     requires { ⌜ (entry .body ≤ entry .end) × (entry .end ≤ length (now f)) ⌝ }
-    ensures { λ r. ⌜ r ≡ nextIn (datagramOf (now (f .entry)) entry) left ⌝ }
+    ensures { λ r. ⌜ r ≡ nextIn (datagramOf (now (f .entry)) entry) left cursor ⌝ }
 {
-    match left {
-        Opened::Refused(_) => Next::Over,
-        Opened::Items(n, cursor) => {
-            if n == 0 {
-                return Next::Over;
-            }
-            let body = entry.body;
-            let end = entry.end;
-            match next_item(&f[body..end], cursor) {
-                Step::End => Next::Over,
-                Step::Item(x, next) => {
-                    let item = x.item;
-                    Next::Item(item, Opened::Items(n - 1, next))
-                }
-            }
-        }
+    if left == 0 {
+        return Step::End;
+    }
+    let body = entry.body;
+    let end = entry.end;
+    next_item(&f[body..end], cursor)
+}
+
+// How many items are to be taken: none of a datagram that is refused.
+pub(crate) fn items_in(count: Count) -> usize
+    ensures { λ r. ⌜ r ≡ itemsIn count ⌝ }
+{
+    match count {
+        Count::Items(n) => n,
+        Count::Refused(_) => 0,
     }
 }
 
-// The row before the first item, by what opening the datagram answered.
-pub(crate) fn first_row(opened: Opened) -> Row
-    ensures { λ r. ⌜ r ≡ firstRow opened ⌝ }
+// The row before the first item.
+pub(crate) fn first_row(count: Count) -> Row
+    ensures { λ r. ⌜ r ≡ firstRow count ⌝ }
 {
-    match opened {
-        Opened::Items(n, _) => Row {
+    match count {
+        Count::Items(n) => Row {
             items: n as u64,
             accepted: 0,
             number: 0,
         },
-        Opened::Refused(r) => Row {
+        Count::Refused(r) => Row {
             items: 0,
             accepted: 0,
             number: r.number,

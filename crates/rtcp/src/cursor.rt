@@ -18,7 +18,7 @@ ghost use Prim.Native.Nat.{_+_, _<_};
 ghost use lib.ListN.{length, getD};
 ghost use Rattle.packet.specs.Checks.{passed};
 ghost use Rattle.datagram.specs.Datagram.{datagramCheck, datagramItems};
-ghost use Rattle.rtcp.specs.Cursor.{advance, nextOf};
+ghost use Rattle.rtcp.specs.Cursor.{advance, nextOf, start};
 ghost use Rattle.rtcp.specs.Answers.{nothing, cursorOn};
 
 // Where a walk over a datagram stands. Only `open_datagram` and `next_item` make one.
@@ -26,7 +26,7 @@ pub struct Cursor {
     state: State,
 }
 
-pub enum State {
+pub(crate) enum State {
     // Before the packet at a place.
     Packet(usize),
     // Among the sources of a BYE packet: the next one, where they stop, and the packet behind.
@@ -150,6 +150,15 @@ pub fn next_item(d: &[u8], from: Cursor) -> Step
                 return Step::End;
             }
         }
+    }
+}
+
+// Before the first item of a datagram, where `open_datagram` puts its cursor.
+pub fn first_cursor() -> Cursor
+    ensures { λ r. ⌜ r ≡ start ⌝ }
+{
+    Cursor {
+        state: State::Packet(0),
     }
 }
 

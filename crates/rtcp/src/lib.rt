@@ -10,6 +10,7 @@ mod rows;
 pub use cursor::Cursor;
 pub use cursor::Opened;
 pub use cursor::Step;
+pub use cursor::first_cursor;
 pub use cursor::next_item;
 pub use cursor::open_datagram;
 pub use datagram::Count;

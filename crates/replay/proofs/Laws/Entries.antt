@@ -1,5 +1,5 @@
 -- Laws of running entries: an entry begins, its calls come off one by one, and its row is put when none is left.
-use Prim.Native.Nat.{ℕ, suc, _+_, _*_, _≤_, _<_}
+use Prim.Native.Nat.{ℕ, suc, _+_, _-_, _*_, _≤_, _<_}
 use mathlib.Core.Path.{_≡_, refl, sym, ap, subst, _∙_}
 use mathlib.Core.Bool.{Bool, false}
 use mathlib.Core.List.{List, [], _∷_, _++_, append-nil}
@@ -15,6 +15,7 @@ use Rattle.packet.specs.Checks.{Check, passed, refused}
 use Rattle.datagram.specs.declared.Count.{Count}
 use Rattle.datagram.specs.Datagram.{datagramCheck, datagramItems}
 use Rattle.datagram.specs.Answers.{refusal, itemCount}
+use Rattle.rtcp.specs.declared.cursor.Cursor.{Cursor}
 use Rattle.rtcp.specs.declared.cursor.Opened.{Opened}
 use Rattle.rtcp.specs.Cursor.{start, given}
 use Rattle.rtcp.specs.Answers.{cursorOn}
@@ -28,41 +29,44 @@ use Rattle.table.specs.Calls.{answered}
 use Rattle.table.specs.Choose.{choiceOf}
 use Rattle.table.specs.Intake.{recordOf}
 use Rattle.table.specs.History.{answersFrom, tableFrom}
-use Rattle.intake.specs.Datagrams.{callsIn}
+use Rattle.intake.specs.Datagrams.{callsOf, callsIn}
 use Rattle.intake.proofs.Laws.{cursor-items, sets-append, sets-front}
 use Rattle.replay.specs.declared.steps.Row.{Row}
 use Rattle.replay.specs.Recording.{RecordedDatagram}
 use Rattle.replay.specs.Replay.{entryCalls, acceptedIn, firstRefusal, entryRowLength, entryRowUnless, entryRow}
 use Rattle.replay.specs.Replay.{callsOfEntries, entryRows, lastReading, choiceAtEnd}
-use Rattle.replay.specs.Steps.{leftIn, leftCount, firstRow, firstOf, rowAfter, cellsOf, rowWithMore}
+use Rattle.replay.specs.Steps.{itemsIn, firstRow, rowAfter, cellsOf, rowWithMore}
 use Rattle.replay.proofs.Laws.Rows.{first-of-none, row-more, row-whole}
-use Rattle.replay.proofs.Laws.Left.{ItemLeft}
 
 -- ---- an item's part of the calls that are left
 
-module _ (origin : Origin) (at : Reading) (d : List ℕ) (left rest : Opened) where
-  abbrev callsLeft : Opened → List Call
-  callsLeft o = callsIn origin at (leftIn d o)
+module _
+    (origin : Origin) (at : Reading) (d : List ℕ) (left : ℕ) (c : Cursor) (x : Placed) (next : Cursor)
+    (e : given left d c ≡ x ∷ given (left - 1) d next) where
+  by-item :
+      (item : Item) → x .item ≡ item
+      → callsIn origin at (given left d c) ≡ callsOf origin at item ++ callsIn origin at (given (left - 1) d next)
+  unfolding callsIn
+  by-item item i =
+      ap (callsIn origin at) e
+      ∙ ap (λ (j : Item). callsOf origin at j ++ callsIn origin at (given (left - 1) d next)) i
 
   pub report-left :
-      (r : Report) → ItemLeft d left (Item.Report r) rest
-      → callsLeft left ≡ Call.report (recordOf r origin) at ∷ callsLeft rest
-  unfolding callsIn
-  report-left r l = ap (callsIn origin at) (l .items)
+      (r : Report) → x .item ≡ Item.Report r
+      → callsIn origin at (given left d c)
+      ≡ Call.report (recordOf r origin) at ∷ callsIn origin at (given (left - 1) d next)
+  report-left r i = by-item (Item.Report r) i
 
   pub farewell-left :
-      (source : ℕ) → ItemLeft d left (Item.Farewell source) rest
-      → callsLeft left ≡ Call.farewell source origin ∷ callsLeft rest
-  unfolding callsIn
-  farewell-left source l = ap (callsIn origin at) (l .items)
+      (source : ℕ) → x .item ≡ Item.Farewell source
+      → callsIn origin at (given left d c)
+      ≡ Call.farewell source origin ∷ callsIn origin at (given (left - 1) d next)
+  farewell-left source i = by-item (Item.Farewell source) i
 
-  pub settings-left : (s : Settings) → ItemLeft d left (Item.Settings s) rest → callsLeft left ≡ callsLeft rest
-  unfolding callsIn
-  settings-left s l = ap (callsIn origin at) (l .items)
-
-pub none-left : (origin : Origin) (at : Reading) {items : List Placed} → items ≡ [] → callsIn origin at items ≡ []
-unfolding callsIn
-none-left origin at e = ap (callsIn origin at) e
+  pub settings-left :
+      (s : Settings) → x .item ≡ Item.Settings s
+      → callsIn origin at (given left d c) ≡ callsIn origin at (given (left - 1) d next)
+  settings-left s i = by-item (Item.Settings s) i
 
 -- ---- an entry begins
 
@@ -71,70 +75,57 @@ abbrev pub Begins : Table → RecordedDatagram → List Call → Row → Type 0
 Begins t e calls row = (calls ≡ entryCalls e) × (rowWithMore row (answersFrom t calls) ≡ entryRow t e)
 
 module _ (t : Table) (e : RecordedDatagram) where
+  -- the calls of as many items as a count says
+  abbrev counted : Count → List Call
+  counted count = callsIn (e .origin) (e .at) (given (itemsIn count) (e .datagram) start)
+
   begins-passed :
       datagramCheck false (e .datagram) ≡ passed
-      → Begins t e
-      (callsIn (e .origin) (e .at) (leftIn (e .datagram) (Opened.Items (length (datagramItems (e .datagram))) start)))
-      (firstRow (Opened.Items (length (datagramItems (e .datagram))) start))
-  unfolding entryCalls entryRow firstRow leftIn cursorOn
+      → Begins t e (counted (Count.Items (length (datagramItems (e .datagram)))))
+      (firstRow (Count.Items (length (datagramItems (e .datagram)))))
+  unfolding entryCalls entryRow firstRow cursorOn
   begins-passed k =
       let d = e .datagram in
-      let opens : cursorOn false d ≡ Opened.Items (length (datagramItems d)) start = rw k refl in
-      let items : given (length (datagramItems d)) d start ≡ datagramItems d = cursor-items false d _ _ opens .1 in
-      let calls : callsIn (e .origin) (e .at) (given (length (datagramItems d)) d start) ≡ entryCalls e =
-      ap (callsIn (e .origin) (e .at)) items ∙ rw k refl in
+      let n = length (datagramItems d) in
+      let opens : cursorOn false d ≡ Opened.Items n start = rw k refl in
+      let calls : counted (Count.Items n) ≡ entryCalls e =
+      ap (callsIn (e .origin) (e .at)) (cursor-items false d n start opens .1) ∙ rw k refl in
       let numbers = answersFrom t (entryCalls e) in
       let sum : 0 + acceptedIn numbers ≡ acceptedIn numbers = omega arith in (
         calls,
-        ap
-            (λ (those : List Call).
-            rowWithMore (firstRow (Opened.Items (length (datagramItems d)) start)) (answersFrom t those)) calls
-            ∙ ap (λ (n : ℕ). length (datagramItems d) ∷ n ∷ firstRefusal numbers ∷ []) sum
-            ∙ ap (λ (check : Check). entryRowUnless check (length (datagramItems d)) numbers) (sym k),
+        ap (λ (those : List Call). rowWithMore (firstRow (Count.Items n)) (answersFrom t those)) calls
+            ∙ ap (λ (accepted : ℕ). n ∷ accepted ∷ firstRefusal numbers ∷ []) sum
+            ∙ ap (λ (check : Check). entryRowUnless check n numbers) (sym k),
       )
 
   begins-refused :
       (number place : ℕ) → datagramCheck false (e .datagram) ≡ refused number place
-      → Begins t e (callsIn (e .origin) (e .at) (leftIn (e .datagram) (Opened.Refused (refusal number place))))
-      (firstRow (Opened.Refused (refusal number place)))
-  unfolding entryCalls entryRow firstRow leftIn callsIn answersFrom acceptedIn firstRefusal
+      → Begins t e (counted (Count.Refused (refusal number place))) (firstRow (Count.Refused (refusal number place)))
+  unfolding entryCalls entryRow firstRow given callsIn answersFrom acceptedIn firstRefusal
   begins-refused number place k = rw (k, first-of-none number) (refl, refl)
 
   pub entry-begins :
-      (left : Opened) → left ≡ cursorOn false (e .datagram)
-      → Begins t e (callsIn (e .origin) (e .at) (leftIn (e .datagram) left)) (firstRow left)
-  unfolding cursorOn
-  entry-begins left o = go (datagramCheck false (e .datagram)) refl
+      (count : Count) → count ≡ itemCount false (e .datagram) → Begins t e (counted count) (firstRow count)
+  unfolding itemCount
+  entry-begins count o = go (datagramCheck false (e .datagram)) refl
     where
       go :
-          (k : Check) → datagramCheck false (e .datagram) ≡ k
-          → Begins t e (callsIn (e .origin) (e .at) (leftIn (e .datagram) left)) (firstRow left)
+          (k : Check) → datagramCheck false (e .datagram) ≡ k → Begins t e (counted count) (firstRow count)
       go passed k =
-          let opens : Opened.Items (length (datagramItems (e .datagram))) start ≡ left = sym (rw k at o) in
-          subst
-          (λ (l : Opened). Begins t e (callsIn (e .origin) (e .at) (leftIn (e .datagram) l)) (firstRow l))
-          opens (begins-passed k)
+          let counts : Count.Items (length (datagramItems (e .datagram))) ≡ count = sym (rw k at o) in
+          subst (λ (c : Count). Begins t e (counted c) (firstRow c)) counts (begins-passed k)
       go (refused number place) k =
-          let opens : Opened.Refused (refusal number place) ≡ left = sym (rw k at o) in
-          subst
-          (λ (l : Opened). Begins t e (callsIn (e .origin) (e .at) (leftIn (e .datagram) l)) (firstRow l))
-          opens (begins-refused number place k)
+          let counts : Count.Refused (refusal number place) ≡ count = sym (rw k at o) in
+          subst (λ (c : Count). Begins t e (counted c) (firstRow c)) counts (begins-refused number place k)
 
 -- no datagram has more items than words
 pub begins-few :
-    (d : List ℕ) (left : Opened) → left ≡ cursorOn false d → firstRow left .accepted + leftCount left ≤ 512
-unfolding cursorOn itemCount firstRow
-begins-few d left o = go (datagramCheck false d) refl
-  where
-    go : (k : Check) → datagramCheck false d ≡ k → firstRow left .accepted + leftCount left ≤ 512
-    go passed k =
-        let opens : Opened.Items (length (datagramItems d)) start ≡ left = sym (rw k at o) in
-        let counted : itemCount false d ≡ Count.Items (length (datagramItems d)) = rw k refl in
-        let bound : _ = count-bound false d (length (datagramItems d)) counted in
-        subst (λ (l : Opened). firstRow l .accepted + leftCount l ≤ 512) opens (omega (arith, bound .0, bound .1))
-    go (refused number place) k =
-        let opens : Opened.Refused (refusal number place) ≡ left = sym (rw k at o) in
-        subst (λ (l : Opened). firstRow l .accepted + leftCount l ≤ 512) opens (omega arith)
+    (d : List ℕ) (count : Count) → count ≡ itemCount false d → firstRow count .accepted + itemsIn count ≤ 512
+unfolding firstRow
+begins-few d (Count.Items n) o =
+    let bound : _ = count-bound false d n (sym o) in
+    omega (arith, bound .0, bound .1)
+begins-few d (Count.Refused r) o = omega arith
 
 -- ---- EntriesLeft: what the loop keeps. The entries `es₀` were to be run on the table `t₀`; the table is `t`, in entry
 -- i `calls` are left and its row is `row` so far, its reading is `at`, and behind it the entries `later` are left.

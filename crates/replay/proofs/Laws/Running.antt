@@ -1,6 +1,6 @@
 -- What the loop over entries keeps of its own variables: where it stands in the layout, the table's source numbers, and
 -- what is left to run (`EntriesLeft`).
-use Prim.Native.Nat.{ℕ, suc, _+_, _-_, _*_, _%_, _≤_, _<_}
+use Prim.Native.Nat.{ℕ, _+_, _-_, _*_, _%_, _≤_, _<_}
 use mathlib.Core.Path.{_≡_, refl, sym, ap, subst, _∙_}
 use mathlib.Core.Bool.{Bool, true, false}
 use mathlib.Core.List.{List, [], _∷_, _++_}
@@ -10,13 +10,16 @@ use lib.Seq.{sets}
 use native.Mathlib.Omega.{arith}
 use borrow.Author.Tests.{ltb-true, ltb-false}
 use Rattle.idms.specs.declared.Item.{Item}
+use Rattle.idms.specs.declared.Placed.{Placed}
 use Rattle.idms.specs.declared.Report.{Report}
 use Rattle.idms.specs.declared.Settings.{Settings}
-use Rattle.rtcp.specs.declared.cursor.Opened.{Opened}
-use Rattle.rtcp.specs.Answers.{cursorOn}
+use Rattle.datagram.specs.declared.Count.{Count}
+use Rattle.datagram.specs.Answers.{itemCount}
+use Rattle.rtcp.specs.declared.cursor.Cursor.{Cursor}
+use Rattle.rtcp.specs.declared.cursor.Step.{Step}
+use Rattle.rtcp.specs.Cursor.{start, given}
 use Rattle.register.specs.declared.Record.{Record}
 use Rattle.register.specs.declared.Member.{Member}
-use Rattle.register.specs.declared.Choice.{Choice}
 use Rattle.register.specs.declared.Reading.{Reading}
 use Rattle.register.specs.Register.{Call}
 use Rattle.choosing.specs.Marked.{nobody}
@@ -32,22 +35,43 @@ use Rattle.table.proofs.Laws.Filing.{filing-answers, filing-searched}
 use Rattle.table.proofs.Laws.Search.{place-among, sources-set, sources-long, sources-after-farewell}
 use Rattle.intake.specs.Datagrams.{callsIn}
 use Rattle.replay.specs.declared.layout.Listed.{Listed}
-use Rattle.replay.specs.declared.steps.Next.{Next}
 use Rattle.replay.specs.declared.steps.Row.{Row}
-use Rattle.replay.specs.Recording.{RecordedDatagram, entryCount, entryPlace, bodyLength, entriesFrom, bodiesEnd, entriesIn}
+use Rattle.replay.specs.Recording.{RecordedDatagram, entryCount, entryPlace, bodyLength, entriesFrom, bodiesEnd}
+use Rattle.replay.specs.Recording.{entriesIn}
 use Rattle.replay.specs.Replay.{entryRowLength, entryRows, choiceAtEnd}
-use Rattle.replay.specs.Steps.{listedAt, datagramOf, nextIn, leftIn, leftCount, firstRow, rowAfter, cellsOf}
-use Rattle.replay.proofs.Laws.Layout.{GoodLayout, bodies-none, bodies-next, bodies-onward}
-use Rattle.replay.proofs.Laws.Layout.{recordedAt, entries-none, entries-next, entries-count}
-use Rattle.replay.proofs.Laws.Layout.{entries-in, entries-in-count}
+use Rattle.replay.specs.Steps.{listedAt, datagramOf, nextIn, itemsIn, firstRow, rowAfter, cellsOf}
+use Rattle.replay.proofs.Laws.Layout.{GoodLayout, bodies-next, bodies-onward, recordedAt}
+use Rattle.replay.proofs.Laws.Layout.{entries-none, entries-next, entries-count, entries-in, entries-in-count}
 use Rattle.replay.proofs.Laws.Rows.{accepted-after}
-use Rattle.replay.proofs.Laws.Left.{ItemLeft, left-item, left-over}
+use Rattle.replay.proofs.Laws.Left.{item-left, none-left}
 use Rattle.replay.proofs.Laws.Calls.{rows-length}
-use Rattle.replay.proofs.Laws.Entries.{report-left, farewell-left, settings-left, none-left}
+use Rattle.replay.proofs.Laws.Entries.{report-left, farewell-left, settings-left}
 use Rattle.replay.proofs.Laws.Entries.{Begins, entry-begins, begins-few, EntriesLeft, entries-left-start}
 use Rattle.replay.proofs.Laws.Entries.{entries-left-call, entries-left-same, entries-left-next, entries-left-end}
 
+-- the calls that are left of an entry, and the entries behind entry i, whose body ends at `end`
+abbrev leftCalls : List ℕ → Listed → ℕ → Cursor → List Call
+leftCalls f entry left cursor = callsIn (entry .origin) (entry .at) (given left (datagramOf f entry) cursor)
+
+abbrev behind : List ℕ → ℕ → ℕ → ℕ → List RecordedDatagram
+behind f n i end = entriesFrom f (n - (i + 1)) (entryPlace (i + 1)) end
+
 -- ---- an entry as it is listed, and as it is recorded
+
+-- its items have been counted, and none is taken
+pub record Begun (f : List ℕ) (entry : Listed) (left : ℕ) (cursor : Cursor) (row : Row) : Type 0 where
+  pub count : Count
+  pub counts : count ≡ itemCount false (datagramOf f entry)
+  pub left-is : left ≡ itemsIn count
+  pub cursor-is : cursor ≡ start
+  pub row-is : row ≡ firstRow count
+
+begun-few :
+    (f : List ℕ) (entry : Listed) (left : ℕ) (cursor : Cursor) (row : Row) → Begun f entry left cursor row
+    → row .accepted + left ≤ 512
+begun-few f entry left cursor row b =
+    let accepted : row .accepted ≡ firstRow (b .count) .accepted = ap (λ (v : Row). v .accepted) (b .row-is) in
+    omega (arith, accepted, b .left-is, begins-few (datagramOf f entry) (b .count) (b .counts))
 
 same-datagram : (f : List ℕ) (p body : ℕ) → datagramOf f (listedAt f p body) ≡ recordedAt f p body .datagram
 same-datagram f p body =
@@ -55,44 +79,49 @@ same-datagram f p body =
     ap (λ (k : ℕ). take k (drop body f)) long
 
 listed-begins :
-    (t : Table) (f : List ℕ) (p body : ℕ) (entry : Listed) (left : Opened) (row : Row)
-    → entry ≡ listedAt f p body → left ≡ cursorOn false (datagramOf f entry) → row ≡ firstRow left
-    → Begins t (recordedAt f p body) (callsIn (entry .origin) (entry .at) (leftIn (datagramOf f entry) left)) row
-listed-begins t f p body entry left row e o r =
+    (t : Table) (f : List ℕ) (p body : ℕ) (entry : Listed) (left : ℕ) (cursor : Cursor) (row : Row)
+    → entry ≡ listedAt f p body → Begun f entry left cursor row
+    → Begins t (recordedAt f p body) (leftCalls f entry left cursor) row
+listed-begins t f p body entry left cursor row e b =
     let recorded = recordedAt f p body in
-    let theirs = callsIn (recorded .origin) (recorded .at) (leftIn (recorded .datagram) left) in
     let d : datagramOf f entry ≡ recorded .datagram = ap (datagramOf f) e ∙ same-datagram f p body in
-    let begun : Begins t recorded theirs (firstRow left) =
-    entry-begins t recorded left (o ∙ ap (cursorOn false) d) in
-    let calls : callsIn (entry .origin) (entry .at) (leftIn (datagramOf f entry) left) ≡ theirs =
-    ap (λ (g : Listed). callsIn (g .origin) (g .at) (leftIn (datagramOf f entry) left)) e
-    ∙ ap (λ (bytes : List ℕ). callsIn (recorded .origin) (recorded .at) (leftIn bytes left)) d in
+    let theirs = callsIn (recorded .origin) (recorded .at) (given (itemsIn (b .count)) (recorded .datagram) start) in
+    let begun : Begins t recorded theirs (firstRow (b .count)) =
+    entry-begins t recorded (b .count) (b .counts ∙ ap (itemCount false) d) in
+    let calls : leftCalls f entry left cursor ≡ theirs =
+    ap (λ (g : Listed). callsIn (g .origin) (g .at) (given left (datagramOf f entry) cursor)) e
+    ∙ ap (λ (bytes : List ℕ). callsIn (recorded .origin) (recorded .at) (given left bytes cursor)) d
+    ∙ ap
+    (λ (n : ℕ). callsIn (recorded .origin) (recorded .at) (given n (recorded .datagram) cursor)) (b .left-is)
+    ∙ ap
+    (λ (c : Cursor).
+    callsIn (recorded .origin) (recorded .at) (given (itemsIn (b .count)) (recorded .datagram) c)) (b .cursor-is) in
     subst (λ (those : List Call). Begins t recorded those row) (sym calls)
-    (subst (λ (w : Row). Begins t recorded theirs w) (sym r) begun)
+    (subst (λ (w : Row). Begins t recorded theirs w) (sym (b .row-is)) begun)
 
 -- ---- Running
 
 pub record Running
     (f : List ℕ) (n : ℕ) (t₀ : Table) (rows₀ : List ℕ)
-    (t : Table) (sources rows : List ℕ) (i : ℕ) (entry : Listed) (left : Opened) (row : Row) : Type 0 where
+    (t : Table) (sources rows : List ℕ) (i : ℕ) (entry : Listed) (left : ℕ) (cursor : Cursor) (row : Row)
+    : Type 0 where
   pub sources-are : sources ≡ sourcesOf (t .members)
   pub many : length sources ≡ 64
   pub inside : i < n
   pub here : entry ≡ listedAt f (entryPlace i) (entry .body)
   pub bodies : bodiesEnd f (n - (i + 1)) (entryPlace (i + 1)) (entry .end) ≡ length f
-  pub few : row .accepted + leftCount left ≤ 512
+  pub few : row .accepted + left ≤ 512
   pub run :
-      EntriesLeft t₀ rows₀ (entriesIn f) t rows i
-      (callsIn (entry .origin) (entry .at) (leftIn (datagramOf f entry) left)) row (entry .at)
-      (entriesFrom f (n - (i + 1)) (entryPlace (i + 1)) (entry .end))
+      EntriesLeft t₀ rows₀ (entriesIn f) t rows i (leftCalls f entry left cursor) row (entry .at)
+      (behind f n i (entry .end))
 
 -- ---- the entry lies in the file
 
 -- the same place and the same body
 pub listed-at :
-    (f : List ℕ) {p q body start : ℕ} (entry : Listed) → p ≡ q → body ≡ start → entry ≡ listedAt f p body
-    → entry ≡ listedAt f q start
-listed-at f {p} {q} {body} {start} entry e h g =
+    (f : List ℕ) {p q body first : ℕ} (entry : Listed) → p ≡ q → body ≡ first → entry ≡ listedAt f p body
+    → entry ≡ listedAt f q first
+listed-at f {p} {q} {body} {first} entry e h g =
     g ∙ ap (λ (k : ℕ). listedAt f k body) e ∙ ap (listedAt f q) h
 
 -- an entry that is not the last has one behind it
@@ -127,8 +156,8 @@ listed-inside f n i body entry less e g =
 
 module _
     {f : List ℕ} {n : ℕ} {t₀ : Table} {rows₀ : List ℕ}
-    {t : Table} {sources rows : List ℕ} {i : ℕ} {entry : Listed} {left : Opened} {row : Row}
-    (l : Running f n t₀ rows₀ t sources rows i entry left row) where
+    {t : Table} {sources rows : List ℕ} {i : ℕ} {entry : Listed} {left : ℕ} {cursor : Cursor} {row : Row}
+    (l : Running f n t₀ rows₀ t sources rows i entry left cursor row) where
   pub running-inside : (entry .body ≤ entry .end) × (entry .end ≤ length f)
   running-inside =
       let end : entry .end ≡ entry .body + bodyLength f (entryPlace i) = ap (λ (g : Listed). g .end) (l .here) in (
@@ -136,153 +165,130 @@ module _
         omega (arith, l .bodies, bodies-onward f (n - (i + 1)) (entryPlace (i + 1)) (entry .end)),
       )
 
-  pub running-long : length (t .members) ≡ 64
-  running-long = sym (sources-long (t .members)) ∙ ap length (sym (l .sources-are)) ∙ l .many
+  members-many : length (t .members) ≡ 64
+  members-many = sym (sources-long (t .members)) ∙ ap length (sym (l .sources-are)) ∙ l .many
 
-  -- ---- a turn of the loop
+  -- ---- an item is taken
 
-  -- a call is made
-  running-call :
-      (rest : Opened) (call : Call) (a : Answered) (sources₁ : List ℕ) (row₁ : Row)
-      → leftCount left ≡ leftCount rest + 1
-      → callsIn (entry .origin) (entry .at) (leftIn (datagramOf f entry) left)
-      ≡ call ∷ callsIn (entry .origin) (entry .at) (leftIn (datagramOf f entry) rest)
-      → a ≡ answered t call → sources₁ ≡ sourcesOf (a .table .members) → length sources₁ ≡ 64
-      → row₁ ≡ rowAfter row (a .number)
-      → Running f n t₀ rows₀ (a .table) sources₁ rows i entry rest row₁
-  running-call rest call a sources₁ row₁ fewer calls e s k r =
-      let accepted : row₁ .accepted ≡ rowAfter row (a .number) .accepted = ap (λ (w : Row). w .accepted) r in
-      record {
-        sources-are = s;
-        many = k;
-        inside = l .inside;
-        here = l .here;
-        bodies = l .bodies;
-        few = omega (arith, l .few, fewer, accepted, accepted-after row (a .number));
-        run = subst
-            (λ (w : Row).
-            EntriesLeft t₀ rows₀ (entriesIn f) (a .table) rows i
-            (callsIn (entry .origin) (entry .at) (leftIn (datagramOf f entry) rest)) w (entry .at)
-            (entriesFrom f (n - (i + 1)) (entryPlace (i + 1)) (entry .end)))
-            (sym r) (entries-left-call (l .run) call _ a calls e);
-      }
-
-  -- a report is filed by the place that was found among the source numbers
   module _
-      (x : Record) (found : ℕ) (there : Member) (filing : Filing)
-      (place : found ≡ placeAmong (x .source) (t .held) sources)
-      (stands : there ≡ getD (t .members) (found % 64) nobody)
-      (filed : filing ≡ filingAt (openingOf t) (t .held) found there x (entry .at)) where
-    filed-so : filing ≡ filingOf t x (entry .at)
-    filed-so =
-        filed
-        ∙ filing-searched t x (entry .at) found (found % 64) there running-long
-        (place
-        ∙ ap (placeAmong (x .source) (t .held)) (l .sources-are)
-        ∙ place-among (x .source) (t .held) (t .members))
-        refl stands
+      (x : Placed) (next : Cursor) (gives : nextIn (datagramOf f entry) left cursor ≡ Step.Item x next) where
+    pub some-left : 0 < left
+    some-left = item-left (datagramOf f entry) left cursor x next gives .0
 
-    pub running-report :
-        (rest : Opened) (r : Report) (row₁ : Row)
-        → nextIn (datagramOf f entry) left ≡ Next.Item (Item.Report r) rest
-        → x ≡ recordOf r (entry .origin) → row₁ ≡ rowAfter row (filing .number)
-        → Running f n t₀ rows₀ (withFiling t filing)
-        (set sources (filing .place) (filing .member .«record» .source)) rows i entry rest row₁
-    running-report rest r row₁ next e w =
-        let item : _ = left-item (datagramOf f entry) left (Item.Report r) rest next in
-        running-call rest (Call.report x (entry .at))
-        (record { number = filing .number; table = withFiling t filing }) _ row₁ (item .count)
-        (report-left (entry .origin) (entry .at) (datagramOf f entry) left rest r item
-        ∙ ap
-        (λ (y : Record).
-        Call.report y (entry .at) ∷ callsIn (entry .origin) (entry .at) (leftIn (datagramOf f entry) rest)) (sym e))
-        (filing-answers t x (entry .at) filing filed-so)
-        (ap (λ (those : List ℕ). set those (filing .place) (filing .member .«record» .source)) (l .sources-are)
-        ∙ sym (sources-set (t .members) (filing .place) (filing .member)))
-        (length-set sources (filing .place) (filing .member .«record» .source) ∙ l .many) w
+    items : given left (datagramOf f entry) cursor ≡ x ∷ given (left - 1) (datagramOf f entry) next
+    items = item-left (datagramOf f entry) left cursor x next gives .1
 
-  pub running-farewell :
-      (rest : Opened) (source : ℕ) (a : Answered) (row₁ : Row)
-      → nextIn (datagramOf f entry) left ≡ Next.Item (Item.Farewell source) rest
-      → a ≡ answered t (Call.farewell source (entry .origin)) → row₁ ≡ rowAfter row (a .number)
-      → Running f n t₀ rows₀ (a .table) sources rows i entry rest row₁
-  running-farewell rest source a row₁ next e w =
-      let item : _ = left-item (datagramOf f entry) left (Item.Farewell source) rest next in
-      running-call rest (Call.farewell source (entry .origin)) a sources row₁ (item .count)
-      (farewell-left (entry .origin) (entry .at) (datagramOf f entry) left rest source item) e
-      (l .sources-are
-      ∙ sym (sources-after-farewell t source (entry .origin))
-      ∙ ap (λ (b : Answered). sourcesOf (b .table .members)) (sym e))
-      (l .many) w
+    running-call :
+        (call : Call) (a : Answered) (sources₁ : List ℕ) (row₁ : Row)
+        → leftCalls f entry left cursor ≡ call ∷ leftCalls f entry (left - 1) next
+        → a ≡ answered t call → sources₁ ≡ sourcesOf (a .table .members) → length sources₁ ≡ 64
+        → row₁ ≡ rowAfter row (a .number)
+        → Running f n t₀ rows₀ (a .table) sources₁ rows i entry (left - 1) next row₁
+    running-call call a sources₁ row₁ calls e s k r =
+        let accepted : row₁ .accepted ≡ rowAfter row (a .number) .accepted = ap (λ (w : Row). w .accepted) r in
+        record {
+          sources-are = s;
+          many = k;
+          inside = l .inside;
+          here = l .here;
+          bodies = l .bodies;
+          few = omega (arith, l .few, some-left, accepted, accepted-after row (a .number));
+          run = subst
+              (λ (w : Row).
+              EntriesLeft t₀ rows₀ (entriesIn f) (a .table) rows i (leftCalls f entry (left - 1) next) w (entry .at)
+              (behind f n i (entry .end)))
+              (sym r) (entries-left-call (l .run) call _ a calls e);
+        }
 
-  pub running-settings :
-      (rest : Opened) (s : Settings) → nextIn (datagramOf f entry) left ≡ Next.Item (Item.Settings s) rest
-      → Running f n t₀ rows₀ t sources rows i entry rest row
-  running-settings rest s next =
-      let item : _ = left-item (datagramOf f entry) left (Item.Settings s) rest next in
-      record {
-        sources-are = l .sources-are;
-        many = l .many;
-        inside = l .inside;
-        here = l .here;
-        bodies = l .bodies;
-        few = omega (arith, l .few, item .count);
-        run = entries-left-same (l .run) _
-            (settings-left (entry .origin) (entry .at) (datagramOf f entry) left rest s item);
-      }
+    -- a report is filed by the place that was found among the source numbers
+    module _
+        (r : Record) (found : ℕ) (there : Member) (filing : Filing)
+        (place : found ≡ placeAmong (r .source) (t .held) sources)
+        (stands : there ≡ getD (t .members) (found % 64) nobody)
+        (filed : filing ≡ filingAt (openingOf t) (t .held) found there r (entry .at)) where
+      filed-so : filing ≡ filingOf t r (entry .at)
+      filed-so =
+          filed
+          ∙ filing-searched t r (entry .at) found (found % 64) there members-many
+          (place
+          ∙ ap (placeAmong (r .source) (t .held)) (l .sources-are)
+          ∙ place-among (r .source) (t .held) (t .members))
+          refl stands
 
-  -- the entry is over, and its row is put
+      pub running-report :
+          (report : Report) (row₁ : Row) → x .item ≡ Item.Report report → r ≡ recordOf report (entry .origin)
+          → row₁ ≡ rowAfter row (filing .number)
+          → Running f n t₀ rows₀ (withFiling t filing)
+          (set sources (filing .place) (filing .member .«record» .source)) rows i entry (left - 1) next row₁
+      running-report report row₁ is e w =
+          running-call (Call.report r (entry .at)) (record { number = filing .number; table = withFiling t filing }) _
+          row₁
+          (report-left (entry .origin) (entry .at) (datagramOf f entry) left cursor x next items report is
+          ∙ ap
+          (λ (y : Record). Call.report y (entry .at) ∷ leftCalls f entry (left - 1) next) (sym e))
+          (filing-answers t r (entry .at) filing filed-so)
+          (ap (λ (those : List ℕ). set those (filing .place) (filing .member .«record» .source)) (l .sources-are)
+          ∙ sym (sources-set (t .members) (filing .place) (filing .member)))
+          (length-set sources (filing .place) (filing .member .«record» .source) ∙ l .many) w
+
+    pub running-farewell :
+        (source : ℕ) (a : Answered) (row₁ : Row) → x .item ≡ Item.Farewell source
+        → a ≡ answered t (Call.farewell source (entry .origin)) → row₁ ≡ rowAfter row (a .number)
+        → Running f n t₀ rows₀ (a .table) sources rows i entry (left - 1) next row₁
+    running-farewell source a row₁ is e w =
+        running-call (Call.farewell source (entry .origin)) a sources row₁
+        (farewell-left (entry .origin) (entry .at) (datagramOf f entry) left cursor x next items source is) e
+        (l .sources-are
+        ∙ sym (sources-after-farewell t source (entry .origin))
+        ∙ ap (λ (b : Answered). sourcesOf (b .table .members)) (sym e))
+        (l .many) w
+
+    pub running-settings :
+        (s : Settings) → x .item ≡ Item.Settings s
+        → Running f n t₀ rows₀ t sources rows i entry (left - 1) next row
+    running-settings s is =
+        record {
+          sources-are = l .sources-are;
+          many = l .many;
+          inside = l .inside;
+          here = l .here;
+          bodies = l .bodies;
+          few = omega (arith, l .few, some-left);
+          run = entries-left-same (l .run) _
+              (settings-left (entry .origin) (entry .at) (datagramOf f entry) left cursor x next items s is);
+        }
+
+  -- ---- the entry is over, and its row is put
+
   module _
-      (rows₁ : List ℕ) (over : nextIn (datagramOf f entry) left ≡ Next.Over)
+      (rows₁ : List ℕ) (over : nextIn (datagramOf f entry) left cursor ≡ Step.End)
       (put : rows₁ ≡ sets rows (entryRowLength * i) (cellsOf row)) where
-    none : callsIn (entry .origin) (entry .at) (leftIn (datagramOf f entry) left) ≡ []
-    none = none-left (entry .origin) (entry .at) (left-over (datagramOf f entry) left over)
-
-    -- with the reading and the end as the loop has them
-    begun-at :
-        (entry₁ : Listed) (left₁ : Opened) (row₁ : Row) (e : RecordedDatagram) {end : ℕ}
-        → entry₁ .at ≡ e .at → entry₁ .end ≡ end
-        → EntriesLeft t₀ rows₀ (entriesIn f) t rows₁ (i + 1)
-        (callsIn (entry₁ .origin) (entry₁ .at) (leftIn (datagramOf f entry₁) left₁)) row₁ (e .at)
-        (entriesFrom f (n - (i + 1 + 1)) (entryPlace (i + 1 + 1)) end)
-        → EntriesLeft t₀ rows₀ (entriesIn f) t rows₁ (i + 1)
-        (callsIn (entry₁ .origin) (entry₁ .at) (leftIn (datagramOf f entry₁) left₁)) row₁ (entry₁ .at)
-        (entriesFrom f (n - (i + 1 + 1)) (entryPlace (i + 1 + 1)) (entry₁ .end))
-    begun-at entry₁ left₁ row₁ e g h x =
-        subst
-        (λ (at : Reading).
-        EntriesLeft t₀ rows₀ (entriesIn f) t rows₁ (i + 1)
-        (callsIn (entry₁ .origin) (entry₁ .at) (leftIn (datagramOf f entry₁) left₁)) row₁ at
-        (entriesFrom f (n - (i + 1 + 1)) (entryPlace (i + 1 + 1)) (entry₁ .end))) (sym g)
-        (subst
-        (λ (k : ℕ).
-        EntriesLeft t₀ rows₀ (entriesIn f) t rows₁ (i + 1)
-        (callsIn (entry₁ .origin) (entry₁ .at) (leftIn (datagramOf f entry₁) left₁)) row₁ (e .at)
-        (entriesFrom f (n - (i + 1 + 1)) (entryPlace (i + 1 + 1)) k)) (sym h) x)
+    none : leftCalls f entry left cursor ≡ []
+    unfolding callsIn
+    none = ap (callsIn (entry .origin) (entry .at)) (none-left (datagramOf f entry) left cursor over)
 
     pub running-next :
-        (entry₁ : Listed) (left₁ : Opened) (row₁ : Row) → i + 1 < n
-        → entry₁ ≡ listedAt f (entryPlace (i + 1)) (entry .end) → left₁ ≡ cursorOn false (datagramOf f entry₁)
-        → row₁ ≡ firstRow left₁
-        → Running f n t₀ rows₀ t sources rows₁ (i + 1) entry₁ left₁ row₁
-    running-next entry₁ left₁ row₁ less e o w =
+        (entry₁ : Listed) (left₁ : ℕ) (cursor₁ : Cursor) (row₁ : Row) → i + 1 < n
+        → entry₁ ≡ listedAt f (entryPlace (i + 1)) (entry .end) → Begun f entry₁ left₁ cursor₁ row₁
+        → Running f n t₀ rows₀ t sources rows₁ (i + 1) entry₁ left₁ cursor₁ row₁
+    running-next entry₁ left₁ cursor₁ row₁ less e b =
         let p = entryPlace (i + 1) in
         let body : entry₁ .body ≡ entry .end = ap (λ (g : Listed). g .body) e in
-        let end : entry₁ .end ≡ entry .end + bodyLength f p = ap (λ (g : Listed). g .end) e in
-        let at : entry₁ .at ≡ recordedAt f p (entry .end) .at = ap (λ (g : Listed). g .at) e in
-        let accepted : row₁ .accepted ≡ firstRow left₁ .accepted = ap (λ (v : Row). v .accepted) w in
         record {
           sources-are = l .sources-are;
           many = l .many;
           inside = less;
           here = e ∙ ap (listedAt f p) (sym body);
-          bodies = ap (bodiesEnd f (n - (i + 1 + 1)) (entryPlace (i + 1 + 1))) end
+          bodies = ap (λ (g : Listed). bodiesEnd f (n - (i + 1 + 1)) (entryPlace (i + 1 + 1)) (g .end)) e
               ∙ sym (bodies-next f n (i + 1) (entry .end) less)
               ∙ l .bodies;
-          few = omega (arith, accepted, begins-few (datagramOf f entry₁) left₁ o);
-          run = begun-at entry₁ left₁ row₁ (recordedAt f p (entry .end)) at end
+          few = begun-few f entry₁ left₁ cursor₁ row₁ b;
+          run = subst
+              (λ (g : Listed).
+              EntriesLeft t₀ rows₀ (entriesIn f) t rows₁ (i + 1) (leftCalls f entry₁ left₁ cursor₁) row₁ (g .at)
+              (behind f n (i + 1) (g .end))) (sym e)
               (entries-left-next (l .run) none rows₁ put _ _ _ row₁ (entries-next f n (i + 1) (entry .end) less)
-              (listed-begins t f p (entry .end) entry₁ left₁ row₁ e o w));
+              (listed-begins t f p (entry .end) entry₁ left₁ cursor₁ row₁ e b));
         }
 
     pub running-end :
@@ -300,22 +306,22 @@ module _
 -- ---- before the first turn
 
 pub running-start :
-    (f : List ℕ) (n : ℕ) (t₀ : Table) (rows₀ : List ℕ) (entry : Listed) (left : Opened) (row : Row)
+    (f : List ℕ) (n : ℕ) (t₀ : Table) (rows₀ : List ℕ) (entry : Listed) (left : ℕ) (cursor : Cursor) (row : Row)
     → GoodLayout f → n ≡ entryCount f → sourcesOf (t₀ .members) ≡ replicate 64 0 → 0 < n
     → entryRowLength * n ≤ length rows₀ → entry ≡ listedAt f (entryPlace 0) (entryPlace n)
-    → left ≡ cursorOn false (datagramOf f entry) → row ≡ firstRow left
-    → Running f n t₀ rows₀ t₀ (replicate 64 0) rows₀ 0 entry left row
-running-start f n t₀ rows₀ entry left row good count s some room e o w =
+    → Begun f entry left cursor row
+    → Running f n t₀ rows₀ t₀ (replicate 64 0) rows₀ 0 entry left cursor row
+running-start f n t₀ rows₀ entry left cursor row good count s some room e b =
+    let listed = listedAt f (entryPlace 0) (entryPlace n) in
     let first = recordedAt f (entryPlace 0) (entryPlace n) in
-    let later = entriesFrom f (n - (0 + 1)) (entryPlace (0 + 1)) (listedAt f (entryPlace 0) (entryPlace n) .end) in
+    let later = behind f n 0 (listed .end) in
     let all : n ≡ n - 0 = omega arith in
     let entries : first ∷ later ≡ entriesIn f =
     sym (entries-next f n 0 (entryPlace n) some)
     ∙ ap (λ (k : ℕ). entriesFrom f k (entryPlace 0) (entryPlace n)) (sym all)
     ∙ entries-in f n count in
-    let bodies : bodiesEnd f (n - (0 + 1)) (entryPlace (0 + 1)) (listedAt f (entryPlace 0) (entryPlace n) .end) ≡ length f =
+    let bodies : bodiesEnd f (n - (0 + 1)) (entryPlace (0 + 1)) (listed .end) ≡ length f =
     sym (bodies-next f n 0 (entryPlace n) some) ∙ bodies-whole f n good count in
-    let accepted : row .accepted ≡ firstRow left .accepted = ap (λ (v : Row). v .accepted) w in
     let lengths : length later ≡ n - (0 + 1) = entries-count f (n - (0 + 1)) _ _ in
     record {
       sources-are = sym s;
@@ -323,18 +329,16 @@ running-start f n t₀ rows₀ entry left row good count s some room e o w =
       inside = some;
       here = e ∙ ap (listedAt f (entryPlace 0)) (sym (ap (λ (g : Listed). g .body) e));
       bodies = ap (λ (g : Listed). bodiesEnd f (n - (0 + 1)) (entryPlace (0 + 1)) (g .end)) e ∙ bodies;
-      few = omega (arith, accepted, begins-few (datagramOf f entry) left o);
+      few = begun-few f entry left cursor row b;
       run = subst
           (λ (es : List RecordedDatagram).
-          EntriesLeft t₀ rows₀ es t₀ rows₀ 0
-          (callsIn (entry .origin) (entry .at) (leftIn (datagramOf f entry) left)) row (entry .at)
-          (entriesFrom f (n - (0 + 1)) (entryPlace (0 + 1)) (entry .end))) entries
+          EntriesLeft t₀ rows₀ es t₀ rows₀ 0 (leftCalls f entry left cursor) row (entry .at)
+          (behind f n 0 (entry .end))) entries
           (subst
           (λ (g : Listed).
-          EntriesLeft t₀ rows₀ (first ∷ later) t₀ rows₀ 0
-          (callsIn (entry .origin) (entry .at) (leftIn (datagramOf f entry) left)) row (g .at)
-          (entriesFrom f (n - (0 + 1)) (entryPlace (0 + 1)) (g .end))) (sym e)
+          EntriesLeft t₀ rows₀ (first ∷ later) t₀ rows₀ 0 (leftCalls f entry left cursor) row (g .at)
+          (behind f n 0 (g .end))) (sym e)
           (entries-left-start t₀ rows₀ first later _ row
-          (listed-begins t₀ f (entryPlace 0) (entryPlace n) entry left row e o w)
+          (listed-begins t₀ f (entryPlace 0) (entryPlace n) entry left cursor row e b)
           (omega (arith, room, lengths, some))));
     }

@@ -4,26 +4,22 @@ use Prim.Native.Nat.{ℕ, _+_, _-_, _*_, _<_}
 use mathlib.Core.Path.{_≡_, refl, sym, ap, _∙_}
 use native.Mathlib.Omega.{arith}
 use borrow.Author.Needs.{needs}
-use Rattle.idms.specs.declared.Item.{Item}
 use Rattle.table.specs.declared.Chosen.{Chosen}
-use Rattle.replay.specs.declared.steps.Next.{Next}
-use Rattle.replay.specs.Steps.{leftCount}
 use Rattle.replay.proofs.Laws.Layout.{good-layout}
-use Rattle.replay.proofs.Laws.Left.{left-item}
 use Rattle.replay.proofs.Laws.Entries.{begins-few}
 use Rattle.replay.proofs.Laws.Running.{listed-at, not-last, bodies-whole, listed-inside}
-use Rattle.replay.proofs.Laws.Running.{Running, running-inside, running-start, running-report}
+use Rattle.replay.proofs.Laws.Running.{Running, running-inside, running-start, some-left, running-report}
 use Rattle.replay.proofs.Laws.Running.{running-farewell, running-settings, running-next, running-end}
 use Rattle.replay.proofs.run_entries.Statement.{statement}
 use Rattle.replay.proofs.run_entries.Tie as tie
 
 abbrev Inv-loop : tie.InvT-loop
-Inv-loop f n rows₀ table₀ sources₀ i₀ entry₀ left₀ row₀ rows table sources i entry left row =
-    Running f n table₀ rows₀ table sources rows i entry left row
+Inv-loop f n rows₀ table₀ sources₀ i₀ entry₀ left₀ row₀ cursor₀ rows table sources i entry left row cursor =
+    Running f n table₀ rows₀ table sources rows i entry left cursor row
 
 abbrev μ-loop : tie.MeasureT-loop
-μ-loop f n rows₀ table₀ sources₀ i₀ entry₀ left₀ row₀ rows table sources i entry left row =
-    (n - i) * 1024 + leftCount left
+μ-loop f n rows₀ table₀ sources₀ i₀ entry₀ left₀ row₀ cursor₀ rows table sources i entry left row cursor =
+    (n - i) * 1024 + left
 
 entry-place-requires : tie.Need-entry-place-requires Inv-loop μ-loop
 entry-place-requires c κs = search needs
@@ -36,42 +32,61 @@ entry-place-requires-2 c κs =
 entry-at-requires : tie.Need-entry-at-requires Inv-loop μ-loop
 entry-at-requires c κs =
     let pre = c .before .before .before .before .pre in
-    let good : _ = good-layout _ (pre .1) in
-    let zeroth = c .before .entry-place .ensures in
-    let all = c .entry-place2 .ensures in (
-      omega (arith, zeroth, good .contents, pre .2, pre .3),
-      omega (arith, all, good .contents, pre .2),
+    let good : _ = good-layout _ (pre .1) in (
+      omega (arith, c .before .entry-place .ensures, good .contents, pre .2, pre .3),
+      omega (arith, c .entry-place2 .ensures, good .contents, pre .2),
       good .short,
     )
 
-open-entry-requires : tie.Need-open-entry-requires Inv-loop μ-loop
-open-entry-requires c κs =
+count-entry-requires : tie.Need-count-entry-requires Inv-loop μ-loop
+count-entry-requires c κs =
     let start = c .before .before .before .before .before in
     let f = start .args .f .now in
     listed-inside f _ 0 _ _ (start .pre .3) (bodies-whole f _ (good-layout f (start .pre .1)) (start .pre .2))
     (listed-at f _ (c .before .before .entry-place .ensures) (c .before .entry-place2 .ensures) (c .entry-at .ensures))
 
+items-in-requires : tie.Need-items-in-requires Inv-loop μ-loop
+items-in-requires c κs = search needs
+
 first-row-requires : tie.Need-first-row-requires Inv-loop μ-loop
 first-row-requires c κs = search needs
 
+first-cursor-requires : tie.Need-first-cursor-requires Inv-loop μ-loop
+first-cursor-requires c κs = search needs
+
 loop-holds : tie.Need-loop-holds Inv-loop μ-loop
 loop-holds c =
-    let start = c .before .before .before .before .before .before .before in
+    let entry = c .before .before .before .before in
+    let start = c .before .before .before .before .before .before .before .before .before in
     let f = start .args .f .now in
     let pre = start .pre in
-    running-start f _ _ _ _ _ _ (good-layout f (pre .1)) (pre .2) (pre .0) (pre .3) (pre .4)
-    (listed-at f _ (c .before .before .before .before .entry-place .ensures) (c .before .before .before .entry-place2 .ensures)
-    (c .before .before .entry-at .ensures))
-    (c .before .open-entry .ensures) (c .first-row .ensures)
+    running-start f _ _ _ _ _ _ _ (good-layout f (pre .1)) (pre .2) (pre .0) (pre .3) (pre .4)
+    (listed-at f _ (entry .before .before .entry-place .ensures) (entry .before .entry-place2 .ensures)
+    (entry .entry-at .ensures))
+    (record {
+      count = c .before .before .before .count-entry .result;
+      counts = c .before .before .before .count-entry .ensures;
+      left-is = c .before .before .items-in .ensures;
+      cursor-is = c .first-cursor .ensures;
+      row-is = c .before .first-row .ensures;
+    })
 
 next-of-requires : tie.Need-next-of-requires Inv-loop μ-loop
 next-of-requires c κs = running-inside (c .loop .inv)
 
+enum-known-x : tie.Need-enum-known-x Inv-loop μ-loop
+enum-known-x c = search needs
+
+sub-left : tie.Need-sub-left Inv-loop μ-loop
+sub-left c =
+    let item = c .before .before .before in
+    let around = item .before .before in
+    let some : _ =
+    some-left (around .before .loop .inv) _ _ (sym (around .next-of .ensures) ∙ item .x .given .1) in
+    omega (arith, some)
+
 enum-known-item : tie.Need-enum-known-item Inv-loop μ-loop
 enum-known-item c = search needs
-
-enum-known-item-2 : tie.Need-enum-known-item-2 Inv-loop μ-loop
-enum-known-item-2 c = search needs
 
 record-of-requires : tie.Need-record-of-requires Inv-loop μ-loop
 record-of-requires c κs = search needs
@@ -104,8 +119,22 @@ row-after-requires : tie.Need-row-after-requires Inv-loop μ-loop
 row-after-requires c κs =
     omega (arith, c .before .before .before .before .before .before .before .before .before .before .before .before .before .before .loop .inv .few)
 
-enum-known-item-3 : tie.Need-enum-known-item-3 Inv-loop μ-loop
-enum-known-item-3 c = search needs
+loop-less : tie.Need-loop-less Inv-loop μ-loop
+loop-less c =
+    let item = c .before .before .before .before .before .before .before .before .before .before .before .before in
+    let around = item .before .before in
+    omega (arith, some-left (around .before .loop .inv) _ _ (sym (around .next-of .ensures) ∙ item .x .given .1))
+
+loop-again : tie.Need-loop-again Inv-loop μ-loop
+loop-again c =
+    let item = c .before .before .before .before .before .before .before .before .before .before .before .before in
+    let around = item .before .before in
+    running-report (around .before .loop .inv) _ _ (sym (around .next-of .ensures) ∙ item .x .given .1) _ _ _ _
+    (c .before .before .before .before .place-among .ensures) refl (c .before .before .filing-at .ensures .0) _ _
+    (c .before .before .before .before .before .before .before .item .given .1) (c .before .before .before .before .before .record-of .ensures) (c .row-after .ensures)
+
+enum-known-item-2 : tie.Need-enum-known-item-2 Inv-loop μ-loop
+enum-known-item-2 c = search needs
 
 farewell-requires : tie.Need-farewell-requires Inv-loop μ-loop
 farewell-requires c κs = search needs
@@ -114,59 +143,33 @@ row-after-requires-2 : tie.Need-row-after-requires-2 Inv-loop μ-loop
 row-after-requires-2 c κs =
     omega (arith, c .before .before .before .before .before .before .before .before .before .before .before .loop .inv .few)
 
-enum-told : tie.Need-enum-told Inv-loop μ-loop
-enum-told c = search needs
-
-loop-less : tie.Need-loop-less Inv-loop μ-loop
-loop-less c =
-    let around = c .before .before .before .before .before .before .before .before .before .before .before .before .before in
-    let next : _ = sym (around .before .next-of .ensures) ∙ c .before .before .before .before .before .before .before .before .before .before .before .before .item .given .1 in
-    omega (arith, left-item _ _ _ _ next .count)
-
-loop-again : tie.Need-loop-again Inv-loop μ-loop
-loop-again c =
-    let report = c .before .before .before .before .before .before .before in
-    let item = report .before .before .before .before .before in
-    let around = item .before .before in
-    let next : _ =
-    sym (around .next-of .ensures)
-    ∙ item .item .given .1
-    ∙ ap (λ (i : Item). Next.Item i (item .item .given .0 .1 .0)) (report .item2 .given .1) in
-    running-report (around .before .loop .inv) _ _ _ _ (c .before .before .before .before .place-among .ensures) refl (c .before .before .filing-at .ensures .0) _ _ _
-    next (c .before .before .before .before .before .record-of .ensures) (c .row-after .ensures)
-
 loop-less-2 : tie.Need-loop-less-2 Inv-loop μ-loop
 loop-less-2 c =
-    let around = c .before .before .before .before .before .before .before .before .before .before in
-    let next : _ = sym (around .before .next-of .ensures) ∙ c .before .before .before .before .before .before .before .before .before .item .given .1 in
-    omega (arith, left-item _ _ _ _ next .count)
+    let item = c .before .before .before .before .before .before .before .before .before in
+    let around = item .before .before in
+    omega (arith, some-left (around .before .loop .inv) _ _ (sym (around .next-of .ensures) ∙ item .x .given .1))
 
 loop-again-2 : tie.Need-loop-again-2 Inv-loop μ-loop
 loop-again-2 c =
-    let farewell = c .before .before .before .before in
-    let item = farewell .before .before .before .before .before in
+    let item = c .before .before .before .before .before .before .before .before .before in
     let around = item .before .before in
-    let next : _ =
-    sym (around .next-of .ensures)
-    ∙ item .item .given .1
-    ∙ ap (λ (i : Item). Next.Item i (item .item .given .0 .1 .0)) (farewell .item3 .given .1) in
-    running-farewell (around .before .loop .inv) _ _ _ _ next (c .before .before .farewell .ensures) (c .row-after2 .ensures)
+    running-farewell (around .before .loop .inv) _ _ (sym (around .next-of .ensures) ∙ item .x .given .1) _ _ _
+    (c .before .before .before .before .item2 .given .1) (c .before .before .farewell .ensures) (c .row-after2 .ensures)
+
+enum-told : tie.Need-enum-told Inv-loop μ-loop
+enum-told c = search needs
 
 loop-less-3 : tie.Need-loop-less-3 Inv-loop μ-loop
 loop-less-3 c =
-    let around = c .before .before .before .before .before .before in
-    let next : _ = sym (around .before .next-of .ensures) ∙ c .before .before .before .before .before .item .given .1 in
-    omega (arith, left-item _ _ _ _ next .count)
+    let item = c .before .before .before .before .before in
+    let around = item .before .before in
+    omega (arith, some-left (around .before .loop .inv) _ _ (sym (around .next-of .ensures) ∙ item .x .given .1))
 
 loop-again-3 : tie.Need-loop-again-3 Inv-loop μ-loop
 loop-again-3 c =
     let item = c .before .before .before .before .before in
     let around = item .before .before in
-    let next : _ =
-    sym (around .next-of .ensures)
-    ∙ item .item .given .1
-    ∙ ap (λ (i : Item). Next.Item i (item .item .given .0 .1 .0)) (c .enum-told .given .1) in
-    running-settings (around .before .loop .inv) _ _ next
+    running-settings (around .before .loop .inv) _ _ (sym (around .next-of .ensures) ∙ item .x .given .1) _ (c .enum-told .given .1)
 
 enum-told-2 : tie.Need-enum-told-2 Inv-loop μ-loop
 enum-told-2 c = search needs
@@ -191,7 +194,7 @@ returns c =
     let last = c .before .before in
     let over = last .before .before .before .before .before in
     let around = over .before .before in
-    let pre = c .before .before .before .before .before .before .before .before .before .before .before .before .before .before .before .before .before .before .pre in
+    let pre = c .before .before .before .before .before .before .before .before .before .before .before .before .before .before .before .before .before .before .before .before .pre in
     let ended : _ =
     running-end (around .before .loop .inv) _ (sym (around .next-of .ensures) ∙ over .enum-told2 .given .1)
     (last .before .before .before .put-row .ensures) (last .if1 .taken) (pre .2) (pre .4) in
@@ -199,14 +202,14 @@ returns c =
 
 entry-place-requires-3 : tie.Need-entry-place-requires-3 Inv-loop μ-loop
 entry-place-requires-3 c κs =
-    let pre = c .before .before .before .before .before .before .before .before .before .before .before .before .before .before .before .before .pre in
+    let pre = c .before .before .before .before .before .before .before .before .before .before .before .before .before .before .before .before .before .before .pre in
     omega (arith, pre .2, good-layout _ (pre .1) .few, c .before .before .before .before .before .before .before .before .loop .inv .inside)
 
 entry-at-requires-2 : tie.Need-entry-at-requires-2 Inv-loop μ-loop
 entry-at-requires-2 c κs =
     let last = c .before in
     let l = last .before .before .before .before .before .before .before .before .loop in
-    let pre = c .before .before .before .before .before .before .before .before .before .before .before .before .before .before .before .before .before .pre in
+    let pre = c .before .before .before .before .before .before .before .before .before .before .before .before .before .before .before .before .before .before .before .pre in
     let good : _ = good-layout _ (pre .1) in
     let less : _ = not-last _ _ (l .inv .inside) (last .if1 .left) in (
       omega (arith, c .entry-place3 .ensures, good .contents, pre .2, less),
@@ -214,32 +217,45 @@ entry-at-requires-2 c κs =
       good .short,
     )
 
-open-entry-requires-2 : tie.Need-open-entry-requires-2 Inv-loop μ-loop
-open-entry-requires-2 c κs =
+count-entry-requires-2 : tie.Need-count-entry-requires-2 Inv-loop μ-loop
+count-entry-requires-2 c κs =
     let last = c .before .before in
     let l = last .before .before .before .before .before .before .before .before .loop in
-    let f = c .before .before .before .before .before .before .before .before .before .before .before .before .before .before .before .before .before .before .args .f .now in
+    let f = c .before .before .before .before .before .before .before .before .before .before .before .before .before .before .before .before .before .before .before .before .args .f .now in
     listed-inside f _ _ _ _ (not-last _ _ (l .inv .inside) (last .if1 .left)) (l .inv .bodies)
     (listed-at f _ (c .before .entry-place3 .ensures) refl (c .entry-at2 .ensures))
+
+items-in-requires-2 : tie.Need-items-in-requires-2 Inv-loop μ-loop
+items-in-requires-2 c κs = search needs
 
 first-row-requires-2 : tie.Need-first-row-requires-2 Inv-loop μ-loop
 first-row-requires-2 c κs = search needs
 
+first-cursor-requires-2 : tie.Need-first-cursor-requires-2 Inv-loop μ-loop
+first-cursor-requires-2 c κs = search needs
+
 loop-less-4 : tie.Need-loop-less-4 Inv-loop μ-loop
 loop-less-4 c =
-    let l = c .before .before .before .before .before .before .before .before .before .before .before .before .loop in
-    omega (arith, l .inv .inside, begins-few _ _ (c .before .open-entry2 .ensures))
+    let l = c .before .before .before .before .before .before .before .before .before .before .before .before .before .before .loop in
+    omega
+    (arith, l .inv .inside, c .before .before .items-in2 .ensures, begins-few _ _ (c .before .before .before .count-entry2 .ensures))
 
 loop-again-4 : tie.Need-loop-again-4 Inv-loop μ-loop
 loop-again-4 c =
-    let last = c .before .before .before .before in
+    let last = c .before .before .before .before .before .before in
     let over = last .before .before .before .before .before in
     let around = over .before .before in
     let l = around .before .loop in
     running-next (l .inv) _ (sym (around .next-of .ensures) ∙ over .enum-told2 .given .1)
-    (last .before .before .before .put-row .ensures) _ _ _ (not-last _ _ (l .inv .inside) (last .if1 .left))
-    (listed-at _ _ (c .before .before .before .entry-place3 .ensures) refl (c .before .before .entry-at2 .ensures))
-    (c .before .open-entry2 .ensures) (c .first-row2 .ensures)
+    (last .before .before .before .put-row .ensures) _ _ _ _ (not-last _ _ (l .inv .inside) (last .if1 .left))
+    (listed-at _ _ (c .before .before .before .before .before .entry-place3 .ensures) refl (c .before .before .before .before .entry-at2 .ensures))
+    (record {
+      count = c .before .before .before .count-entry2 .result;
+      counts = c .before .before .before .count-entry2 .ensures;
+      left-is = c .before .before .items-in2 .ensures;
+      cursor-is = c .first-cursor2 .ensures;
+      row-is = c .before .first-row2 .ensures;
+    })
 
 pub run-entries-spec : {M : Type 1} → statement M
 run-entries-spec =
@@ -250,12 +266,15 @@ run-entries-spec =
     entry-place-requires
     entry-place-requires-2
     entry-at-requires
-    open-entry-requires
+    count-entry-requires
+    items-in-requires
     first-row-requires
+    first-cursor-requires
     loop-holds
     next-of-requires
+    enum-known-x
+    sub-left
     enum-known-item
-    enum-known-item-2
     record-of-requires
     place-among-requires
     mul-there
@@ -266,14 +285,14 @@ run-entries-spec =
     mul-member
     element-set-from-member
     row-after-requires
-    enum-known-item-3
-    farewell-requires
-    row-after-requires-2
-    enum-told
     loop-less
     loop-again
+    enum-known-item-2
+    farewell-requires
+    row-after-requires-2
     loop-less-2
     loop-again-2
+    enum-told
     loop-less-3
     loop-again-3
     enum-told-2
@@ -285,7 +304,9 @@ run-entries-spec =
     returns
     entry-place-requires-3
     entry-at-requires-2
-    open-entry-requires-2
+    count-entry-requires-2
+    items-in-requires-2
     first-row-requires-2
+    first-cursor-requires-2
     loop-less-4
     loop-again-4)
