@@ -25,7 +25,8 @@ typedef struct prunepocket_followed followed_t;
 
 #define SAME(field) (memcmp(&a->field, &b->field, sizeof a->field) == 0)
 
-static int same_record(const record_t *a, const record_t *b)
+/* Inline, since not every test has records. */
+static inline int same_record(const record_t *a, const record_t *b)
 {
     return SAME(source) && SAME(origin) && SAME(report.received) && SAME(report.group) &&
            SAME(report.media) && SAME(report.rtp) && SAME(report.presented) &&

@@ -5,17 +5,8 @@
 #ifndef RANDOM_TABLES_H
 #define RANDOM_TABLES_H
 
+#include "random.h"
 #include "tables.h"
-
-static uint64_t next_random(void)
-{
-    static uint64_t state = UINT64_C(0x9E3779B97F4A7C15);
-
-    state ^= state << 13;
-    state ^= state >> 7;
-    state ^= state << 17;
-    return state;
-}
 
 static uint64_t with_place(uint64_t word, size_t place)
 {

@@ -1,33 +1,13 @@
 /*
- * What test_table.c, test_tallies.c and test_burst.c share: the values of the cases, each call with
+ * What test_table.c, test_tallies.c and test_burst.c share: the reports of the cases, each call with
  * what is checked of its answer, and tables to start from.
  */
 #ifndef TABLES_H
 #define TABLES_H
 
-#include "members.h"
+#include "values.h"
 
-#define CASE(text) (line = __LINE__, name = (text))
-
-#define LENGTH(array) (sizeof(array) / sizeof *(array))
-
-/* ---- Values ---------------------------------------------------------------------------------- */
-
-#define GROUP 42
-#define MEDIA 7
-#define RATE 90000
-
-/* The short time of whole seconds. */
-#define SHORT_SECONDS(n) ((uint32_t)(n) << 16)
-
-/* N and R of the cases. */
-static const reading_t now = {SECONDS(1000), 9000000};
-
-/* The unit at 192.0.2.host. */
-static origin_t unit(uint8_t host)
-{
-    return (origin_t){{0, 0, 0, 0, 0, 0, 0, 0, 0, 0, 0xFF, 0xFF, 192, 0, 2, host}, 5005};
-}
+/* ---- Reports --------------------------------------------------------------------------------- */
 
 static record_t record_10(void)
 {
@@ -67,11 +47,6 @@ static record_t wired(uint8_t source)
 {
     return wired_at(source, SECONDS(999));
 }
-
-/* The target where the reports of 10 and 20 are held. */
-static const target_t target_20 = {
-    20, GROUP, MEDIA, SECONDS(998), 8820000, UINT64_C(0x3E6C0000000), 2,
-};
 
 /* ---- The word of places held ----------------------------------------------------------------- */
 
