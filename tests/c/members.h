@@ -25,7 +25,7 @@ typedef struct prunepocket_followed followed_t;
 
 #define SAME(field) (memcmp(&a->field, &b->field, sizeof a->field) == 0)
 
-/* Inline, since not every test has records. */
+/* Inline, since not every test compares records or targets. */
 static inline int same_record(const record_t *a, const record_t *b)
 {
     return SAME(source) && SAME(origin) && SAME(report.received) && SAME(report.group) &&
@@ -33,7 +33,7 @@ static inline int same_record(const record_t *a, const record_t *b)
            SAME(report.payload_type) && SAME(report.p);
 }
 
-static int same_target(const target_t *a, const target_t *b)
+static inline int same_target(const target_t *a, const target_t *b)
 {
     return SAME(source) && SAME(group) && SAME(media) && SAME(received) && SAME(rtp) &&
            SAME(presented) && SAME(counted);
