@@ -10,6 +10,7 @@
 #include "register.h"
 #include "same.h"
 #include "script.h"
+#include "shares.h"
 
 #include <inttypes.h>
 #include <stdbool.h>
@@ -34,12 +35,6 @@ static const char *const low_bits_names[LOW_BITS] = {"low bits 0", "low bits 1",
 
 /* What is told apart of new members that 13 to 17 let pass: where they stand. */
 enum new_member { AT_0, AT_0_BELOW, BELOW, AT_63_LAST, NO_PLACE, NEW_MEMBERS };
-
-/* What was met, with the number of reports, or of bursts, of which at least one must be such. */
-struct share {
-    const char *name;
-    uint64_t among;
-};
 
 static const struct share new_member_shares[NEW_MEMBERS] = {
     {"at place 0", 100},
@@ -161,11 +156,11 @@ static uint64_t count_step_0(size_t low_bits)
     return count;
 }
 
-/* A line for what a run of ENOUGH_REPORTS must meet more often, on which tools/fuzz fails. */
+/* What a run of ENOUGH_REPORTS must meet more often. */
 static void at_least(const char *what, uint64_t count, uint64_t least)
 {
-    if (reports >= ENOUGH_REPORTS && count < least)
-        fprintf(stderr, "too rare: %s: %" PRIu64 ", at least %" PRIu64 "\n", what, count, least);
+    if (reports >= ENOUGH_REPORTS)
+        print_too_rare(what, count, least);
 }
 
 static void print_step_0(void)
@@ -194,38 +189,24 @@ static void print_step_0(void)
         at_least(low_bits_names[i], count_step_0(i), reports / 1000);
 }
 
-static void print_shares(const char *what, const struct share *shares, const uint64_t *counts, size_t length,
-                         uint64_t all)
+/* Of how many something has a share: of none where there are too few reports. */
+static uint64_t enough_of(uint64_t count)
 {
-    fprintf(stderr, "%s:", what);
-    for (size_t i = 0; i < length; i++)
-        fprintf(stderr, " %s %" PRIu64 ";", shares[i].name, counts[i]);
-    fputs("\n", stderr);
-    for (size_t i = 0; i < length; i++)
-        at_least(shares[i].name, counts[i], all / shares[i].among);
-}
-
-static void print_numbers(const char *what, const uint64_t *counts)
-{
-    fprintf(stderr, "%s:", what);
-    for (size_t number = 0; number < NUMBERS; number++)
-        if (counts[number] > 0)
-            fprintf(stderr, " %zu %" PRIu64 ";", number, counts[number]);
-    fputs("\n", stderr);
+    return reports >= ENOUGH_REPORTS ? count : 0;
 }
 
 static void print_met(void)
 {
     for (size_t call = 0; call < CALLS; call++)
-        print_numbers(call_names[call], met[call]);
-    print_numbers("reports in bursts", in_bursts);
+        print_numbers(call_names[call], met[call], NUMBERS);
+    print_numbers("reports in bursts", in_bursts, NUMBERS);
     fprintf(stderr, "targets: %" PRIu64 " by presentation, %" PRIu64 " among equals; %" PRIu64 " by arrival, %" PRIu64
                     " among equals\n",
             targets[0], ties[0], targets[1], ties[1]);
     print_step_0();
-    print_shares("new members", new_member_shares, new_members, NEW_MEMBERS, reports);
-    print_shares("tallies", tally_shares, tallies_met, TALLY_CASES, reports);
-    print_shares("bursts", burst_shares, bursts_met, BURST_CASES, bursts);
+    print_shares("new members", new_member_shares, new_members, NEW_MEMBERS, enough_of(reports));
+    print_shares("tallies", tally_shares, tallies_met, TALLY_CASES, enough_of(reports));
+    print_shares("bursts", burst_shares, bursts_met, BURST_CASES, enough_of(bursts));
     fprintf(stderr, "reports replaced: %" PRIu64 "; members swept: %" PRIu64 "; at most %" PRIu64
                     " members; looks at all members: %" PRIu64 "\n",
             replaced, swept, most_rows, looks);
