@@ -65,6 +65,42 @@
  * 61: a burst without reports gets 24 where the list has no numbers
  * 62: a burst's lengths are looked at in eight bits
  * 63: a refused burst raises the tally that its first report would have raised
+ * 64: a recording without its last byte is taken
+ * 65: a recording with a byte behind its bodies is taken
+ * 66: 257 entries are taken
+ * 67: a recording's 12 comes before its 25
+ * 68: settings in a recording are counted as accepted
+ * 69: an entry's number is the last refusal of its items
+ * 70: a recording's choice is at the first entry's reading
+ * 71: an entry's datagram is taken under the origin of the entry before
+ * 72: an entry whose datagram is refused has one item
+ * 73: the number behind the last row is written, in an array that has it
+ * 74: the number behind rows that are exactly long enough is written
+ * 75: a recording's 10 is not given, and as many numbers as fit are written
+ * 76: a recording's 10 comes before its 12
+ * 77: the rows are written though a recording gets 10
+ * 78: a recording of 65,537 bytes is taken
+ * 79: an entry's datagram is taken at the reading of the entry before
+ * 80: a recording is taken at reduced size
+ * 81: a recording's choice is at the reading of the last entry that was read
+ * 82: settings in a recording are no items
+ * 83: entries behind a datagram that is refused are not taken
+ * 84: after a refusal, the entries are those that the head says
+ * 85: the byte behind the recording is read
+ * 86: the recording is written on
+ * 87: 256 entries get 25
+ * 88: rows that are exactly long enough get 10
+ * 89: a recording of 65,536 bytes gets 25
+ * 90: the number of entries is looked at in 16 bits
+ * 91: the lengths of bodies are added up in 16 bits
+ * 92: a recording's members are swept at each reading
+ * 93: the table is opened anew for each entry
+ * 94: the last byte of an entry's port is not looked at
+ * 95: items behind a refused one are not counted as accepted
+ * 96: a recording without entries has a target
+ * 97: after a refusal there is a target
+ * 98: the last four bytes of an entry's N are not looked at
+ * 99: the choice is made before the last datagram is taken
  */
 #include "../tests/c/lateness.h"
 #include "prunepocket.h"
@@ -107,6 +143,8 @@ struct prunepocket_answered __wrap_prunepocket_report_burst(struct prunepocket_t
                                                             size_t, struct prunepocket_reading, uint64_t *, size_t);
 struct prunepocket_followed __real_prunepocket_choose(struct prunepocket_table, struct prunepocket_reading);
 struct prunepocket_followed __wrap_prunepocket_choose(struct prunepocket_table, struct prunepocket_reading);
+struct prunepocket_replayed __real_prunepocket_replay(const uint8_t *, size_t, uint64_t *, size_t);
+struct prunepocket_replayed __wrap_prunepocket_replay(const uint8_t *, size_t, uint64_t *, size_t);
 struct prunepocket_answer __real_prunepocket_read_sync_group(const uint8_t *, size_t, uint32_t *);
 struct prunepocket_answer __wrap_prunepocket_read_sync_group(const uint8_t *, size_t, uint32_t *);
 struct prunepocket_answer __real_prunepocket_write_sync_group(uint32_t, uint8_t *, size_t, uint64_t *);
@@ -469,6 +507,264 @@ struct prunepocket_followed __wrap_prunepocket_choose(struct prunepocket_table t
     if (ARCHIVE_FAULT == 41 && followed.number == PRUNEPOCKET_ACCEPTED)
         followed.target = choose_by_tally(table, reading, followed.target);
     return followed;
+}
+
+/* What a replay is told. */
+struct recording {
+    const uint8_t *bytes;
+    size_t length;
+    uint64_t *rows;
+    size_t room;
+};
+
+enum { HEAD = 16, CONTENTS = 32 };
+
+static uint64_t number_in(const uint8_t *bytes, size_t count)
+{
+    uint64_t value = 0;
+
+    for (size_t i = 0; i < count; i++)
+        value = value << 8 | bytes[i];
+    return value;
+}
+
+static size_t entries_said(const struct recording *recording)
+{
+    size_t count = (size_t)number_in(recording->bytes, 4);
+
+    return ARCHIVE_FAULT == 90 ? count % 65536 : count;
+}
+
+static size_t length_said(const struct recording *recording, size_t entry)
+{
+    return (size_t)number_in(recording->bytes + HEAD + CONTENTS * entry + 30, 2);
+}
+
+/* The bodies end where they may, by how many bytes they are said to have. */
+static int ends_well(const struct recording *recording, size_t count)
+{
+    size_t bodies = 0;
+    size_t there = recording->length - HEAD - CONTENTS * count;
+
+    for (size_t i = 0; i < count; i++)
+        bodies += length_said(recording, i);
+    if (ARCHIVE_FAULT == 91)
+        bodies %= 65536;
+    return bodies == there || (ARCHIVE_FAULT == 64 && bodies == there + 1) ||
+           (ARCHIVE_FAULT == 65 && bodies + 1 == there);
+}
+
+static uint64_t layout_number(const struct recording *recording)
+{
+    size_t most = ARCHIVE_FAULT == 78 ? 65537 : ARCHIVE_FAULT == 89 ? 65535 : 65536;
+    size_t most_entries = ARCHIVE_FAULT == 66 ? 257 : ARCHIVE_FAULT == 87 ? 255 : 256;
+
+    if (recording->length > most || recording->length < HEAD)
+        return PRUNEPOCKET_BAD_LAYOUT;
+
+    size_t count = entries_said(recording);
+    if (count > most_entries || recording->length - HEAD < CONTENTS * count || !ends_well(recording, count))
+        return PRUNEPOCKET_BAD_LAYOUT;
+    return PRUNEPOCKET_ACCEPTED;
+}
+
+static struct prunepocket_answered open_recorded(const struct recording *recording)
+{
+    return prunepocket_open((uint32_t)number_in(recording->bytes + 4, 4),
+                            (uint32_t)number_in(recording->bytes + 8, 4),
+                            (uint32_t)number_in(recording->bytes + 12, 4));
+}
+
+static uint64_t recording_number(const struct recording *recording)
+{
+    uint64_t layout = layout_number(recording);
+    uint64_t opening = recording->length < HEAD ? PRUNEPOCKET_ACCEPTED : open_recorded(recording).number;
+
+    if (ARCHIVE_FAULT == 67 && opening != PRUNEPOCKET_ACCEPTED)
+        return opening;
+    if (layout != PRUNEPOCKET_ACCEPTED)
+        return layout;
+
+    size_t needed = PRUNEPOCKET_ENTRY_ROW * entries_said(recording) + (ARCHIVE_FAULT == 88);
+    uint64_t room = recording->room < needed ? PRUNEPOCKET_SHORT_BUFFER : PRUNEPOCKET_ACCEPTED;
+    if (ARCHIVE_FAULT == 76 && room != PRUNEPOCKET_ACCEPTED)
+        return room;
+    if (opening != PRUNEPOCKET_ACCEPTED)
+        return opening;
+    return ARCHIVE_FAULT == 75 ? PRUNEPOCKET_ACCEPTED : room;
+}
+
+/* What an entry says, and its body, which ends with the recording at the latest. */
+struct recorded {
+    struct prunepocket_reading reading;
+    struct prunepocket_origin origin;
+    const uint8_t *body;
+    size_t length;
+};
+
+static struct recorded recorded_at(const struct recording *recording, size_t index, const uint8_t *body)
+{
+    const uint8_t *entry = recording->bytes + HEAD + CONTENTS * index;
+    size_t left = (size_t)(recording->bytes + recording->length - body);
+    size_t said = length_said(recording, index);
+    struct recorded recorded = {.body = body, .length = said < left ? said : left};
+
+    recorded.reading.ntp = number_in(entry, ARCHIVE_FAULT == 98 ? 4 : 8) << (ARCHIVE_FAULT == 98 ? 32 : 0);
+    recorded.reading.rtp = (uint32_t)number_in(entry + 8, 4);
+    memcpy(recorded.origin.address, entry + 12, 16);
+    recorded.origin.port = (uint16_t)number_in(entry + 28, 2);
+    if (ARCHIVE_FAULT == 94)
+        recorded.origin.port &= 0xFF00;
+    return recorded;
+}
+
+/* The row of a datagram that was taken with these numbers, and has so many items. */
+static void count_row(const struct prunepocket_datagram_answered *answered, const uint64_t *numbers, uint64_t items,
+                      uint64_t row[PRUNEPOCKET_ENTRY_ROW])
+{
+    uint64_t settings = items - answered->count;
+
+    row[PRUNEPOCKET_ENTRY_ITEMS] = items - (ARCHIVE_FAULT == 82 ? settings : 0);
+    row[PRUNEPOCKET_ENTRY_ACCEPTED] = ARCHIVE_FAULT == 68 ? settings : 0;
+    row[PRUNEPOCKET_ENTRY_NUMBER] = answered->number;
+    for (uint64_t i = 0; i < answered->count; i++) {
+        if (numbers[i] == 0)
+            row[PRUNEPOCKET_ENTRY_ACCEPTED] += ARCHIVE_FAULT != 95 || row[PRUNEPOCKET_ENTRY_NUMBER] == 0;
+        else if (row[PRUNEPOCKET_ENTRY_NUMBER] == 0 || ARCHIVE_FAULT == 69)
+            row[PRUNEPOCKET_ENTRY_NUMBER] = numbers[i];
+    }
+    if (ARCHIVE_FAULT == 72 && answered->number != 0)
+        row[PRUNEPOCKET_ENTRY_ITEMS] = 1;
+}
+
+/* The table after an entry, whose row goes to its place as far as there is room. */
+static struct prunepocket_table take_recorded(struct prunepocket_table table, const struct recording *recording,
+                                              size_t index, const struct recorded *recorded)
+{
+    uint64_t numbers[512];
+    uint64_t items = 0;
+    uint64_t row[PRUNEPOCKET_ENTRY_ROW];
+    uint32_t reduced_size = ARCHIVE_FAULT == 80;
+    struct prunepocket_datagram_answered answered =
+        __real_prunepocket_take_datagram(table, recorded->body, recorded->length, reduced_size, recorded->origin,
+                                         recorded->reading, numbers, 512);
+
+    __real_prunepocket_count_items(recorded->body, recorded->length, reduced_size, &items);
+    count_row(&answered, numbers, items, row);
+    for (size_t i = 0; i < PRUNEPOCKET_ENTRY_ROW; i++)
+        if (PRUNEPOCKET_ENTRY_ROW * index + i < recording->room)
+            recording->rows[PRUNEPOCKET_ENTRY_ROW * index + i] = row[i];
+    if (ARCHIVE_FAULT == 92)
+        return __real_prunepocket_sweep(answered.table, recorded->reading).table;
+    return answered.table;
+}
+
+/* The reading of the choice, of all that were met. */
+static struct prunepocket_reading reading_of(const struct recording *recording, size_t count)
+{
+    const uint8_t *body = recording->bytes + HEAD + CONTENTS * count;
+    struct prunepocket_reading reading = recorded_at(recording, 0, body).reading;
+
+    for (size_t i = 0; i < count && ARCHIVE_FAULT != 70; i++) {
+        struct recorded recorded = recorded_at(recording, i, body);
+        uint64_t items;
+
+        if (ARCHIVE_FAULT != 81 ||
+            __real_prunepocket_count_items(recorded.body, recorded.length, 0, &items).number == 0)
+            reading = recorded.reading;
+        body += recorded.length;
+    }
+    return reading;
+}
+
+/* Each entry by the other calls, but for the faults within. */
+static struct prunepocket_replayed replay_by_calls(const struct recording *recording)
+{
+    size_t count = entries_said(recording);
+    const uint8_t *body = recording->bytes + HEAD + CONTENTS * count;
+    struct prunepocket_replayed replayed = {.entries = count, .choice = PRUNEPOCKET_NONE_COUNTED};
+    struct prunepocket_table opened = open_recorded(recording).table;
+    struct prunepocket_table table = opened, before_last = opened;
+    struct recorded before = {.body = body};
+
+    for (size_t i = 0; i < count; i++) {
+        struct recorded recorded = recorded_at(recording, i, body), taken = recorded;
+
+        if (ARCHIVE_FAULT == 71 && i > 0)
+            taken.origin = before.origin;
+        if (ARCHIVE_FAULT == 79 && i > 0)
+            taken.reading = before.reading;
+        if (ARCHIVE_FAULT == 93)
+            table = opened;
+        if (ARCHIVE_FAULT == 83 && i > 0 && recording->rows[PRUNEPOCKET_ENTRY_ROW * i - 1] - 1 < 7)
+            taken.length = 0;
+        before_last = table;
+        table = take_recorded(table, recording, i, &taken);
+        body += recorded.length;
+        before = recorded;
+    }
+    if (count > 0) {
+        struct prunepocket_followed followed =
+            __real_prunepocket_choose(ARCHIVE_FAULT == 99 ? before_last : table, reading_of(recording, count));
+
+        replayed.choice = followed.number;
+        replayed.target = followed.target;
+    }
+    return replayed;
+}
+
+static struct prunepocket_replayed refuse_recording(const struct recording *recording, uint64_t number)
+{
+    struct prunepocket_replayed replayed = {.number = number, .choice = PRUNEPOCKET_NONE_COUNTED};
+
+    if (ARCHIVE_FAULT == 77 && number == PRUNEPOCKET_SHORT_BUFFER && recording->room > 0)
+        recording->rows[0] = 0;
+    if (ARCHIVE_FAULT == 84 && recording->length >= HEAD)
+        replayed.entries = entries_said(recording);
+    if (ARCHIVE_FAULT == 97)
+        replayed.choice = PRUNEPOCKET_ACCEPTED;
+    return replayed;
+}
+
+/* Memory that a replay may not touch. */
+__attribute__((no_sanitize("all"))) static void plant_around(const struct recording *recording, uint64_t number)
+{
+    size_t written = number == PRUNEPOCKET_ACCEPTED ? PRUNEPOCKET_ENTRY_ROW * entries_said(recording) : 0;
+
+    if (ARCHIVE_FAULT == 73 && written > 0 && written < recording->room)
+        recording->rows[written] = 0;
+    if (ARCHIVE_FAULT == 74 && written > 0 && written == recording->room)
+        ((volatile uint64_t *)recording->rows)[written] = 0;
+    if (ARCHIVE_FAULT == 85 && recording->length > 0) {
+        /* Kept, since valgrind passes over what is read and not used. */
+        volatile uint8_t behind = ((const volatile uint8_t *)recording->bytes)[recording->length];
+
+        (void)behind;
+    }
+    if (ARCHIVE_FAULT == 86 && number == PRUNEPOCKET_ACCEPTED)
+        ((volatile uint8_t *)(uintptr_t)recording->bytes)[0] = 1;
+}
+
+struct prunepocket_replayed __wrap_prunepocket_replay(const uint8_t *bytes, size_t length, uint64_t *rows, size_t room)
+{
+    struct recording recording = {bytes, length, rows, room};
+    int is_around = ARCHIVE_FAULT == 73 || ARCHIVE_FAULT == 74 || ARCHIVE_FAULT == 85 || ARCHIVE_FAULT == 86;
+
+    if (ARCHIVE_FAULT < 64 || is_around) {
+        struct prunepocket_replayed replayed = __real_prunepocket_replay(bytes, length, rows, room);
+
+        plant_around(&recording, replayed.number);
+        return replayed;
+    }
+
+    uint64_t number = recording_number(&recording);
+    if (number != PRUNEPOCKET_ACCEPTED)
+        return refuse_recording(&recording, number);
+
+    struct prunepocket_replayed replayed = replay_by_calls(&recording);
+    if (ARCHIVE_FAULT == 96 && replayed.entries == 0)
+        replayed.choice = PRUNEPOCKET_ACCEPTED;
+    return replayed;
 }
 
 __attribute__((no_sanitize("all"))) struct prunepocket_answer
