@@ -512,18 +512,27 @@ static void add_datagram(struct script *script, struct made *made, struct state 
     add_entry(made, state->now, &from, datagram, length);
 }
 
-/* A body of zeros: of a length that is said, or so long that the file comes near its limit. */
+/* A length that is said, or one with which the file comes near its limit from so many bytes before the body. */
+static size_t zeros_length(struct script *script, size_t before)
+{
+    uint8_t said = byte(script);
+
+    switch (said % 4) {
+    case 0:
+        return said / 4;
+    case 1:
+        return (size_t)number(script, 2) % 4096;
+    default: /* 2 and 3 */
+        return before + 4 < MOST_RECORDING ? MOST_RECORDING - before + said / 4 % 8 - 4 : 0;
+    }
+}
+
 static void add_zeros(struct script *script, struct made *made, const struct state *state)
 {
     static const uint8_t zeros[MOST_FILE];
     struct from from = origin(script);
-    uint8_t said = byte(script);
-    size_t before = made_bytes(made) + ENTRY_BYTES;
-    size_t length = said % 4 == 0 ? said / 4 : (size_t)number(script, 2) % 4096;
 
-    if (said % 4 > 1 && before + 4 < MOST_RECORDING)
-        length = MOST_RECORDING - before + said / 4 % 8 - 4;
-    add_entry(made, state->now, &from, zeros, length);
+    add_entry(made, state->now, &from, zeros, zeros_length(script, made_bytes(made) + ENTRY_BYTES));
 }
 
 /* More or less by a few. */
