@@ -72,12 +72,12 @@ static const struct share recording_shares[RECORDING_CASES] = {
     {"settings in a datagram that is read", 100},
     {"accepted behind a refused one", 100},
     {"the last refusal another than the first", 100},
-    {"another target than at the first reading", 100},
-    {"another target than at the reading before the last", 100},
-    {"a target though the last datagram is refused", 100},
+    {"another target than at the first reading", 500},
+    {"another target than at the reading before the last", 500},
+    {"a target though the last datagram is refused", 500},
     {"a target by presentation", 20},
     {"a target by arrival", 100},
-    {"members, and none fresh", 100},
+    {"members, and none fresh", 500},
 };
 
 /* What the fuzzer is told beside the branches. */
