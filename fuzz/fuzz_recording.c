@@ -16,7 +16,8 @@
 #include <stdlib.h>
 #include <string.h>
 
-enum { SHORT_BUFFER = 10, NONE_TO_FOLLOW = 20, BAD_OPENING = 12, NUMBERS = 20 };
+/* Refusals; an entry gets none from 20 on. */
+enum { SHORT_BUFFER = 10, BAD_OPENING = 12, NONE_TO_FOLLOW = 20, NUMBERS = 20 };
 
 /* More than a recording may have of each. */
 enum { MOST_FILE = 70000, MOST_MADE = 300 };
@@ -290,8 +291,7 @@ static void same_replayed(const struct prunepocket_replayed *archive, unsigned n
 /* The rows have so many numbers, which end at a page that may not be touched, or start at one. */
 static void check_replay(const uint8_t *file, size_t length, size_t room, bool at_end, const struct replayed *replayed)
 {
-    uint64_t *numbers =
-        (uint64_t *)(at_end ? rows_memory.end - AROUND_ROWS * sizeof(uint64_t) : rows_memory.start);
+    uint64_t *numbers = (uint64_t *)(at_end ? rows_memory.end - AROUND_ROWS * sizeof(uint64_t) : rows_memory.start);
     size_t first = at_end ? AROUND_ROWS - room : 0;
     bool is_short = replayed->refusal == 0 && room < ROW * replayed->count;
     unsigned number = is_short ? SHORT_BUFFER : replayed->refusal;
@@ -345,9 +345,9 @@ struct made {
     uint8_t contents[MOST_MADE][ENTRY_BYTES];
     size_t body_bytes;
     uint8_t bodies[MOST_FILE];
-    size_t last_length;   /* of the last body */
-    uint32_t count_said;  /* another number of entries, where has_count */
+    size_t last_length; /* of the last body */
     bool has_count;
+    uint32_t count_said; /* where has_count: another number of entries */
     size_t cut;      /* bytes that the end loses */
     size_t appended; /* bytes behind the bodies */
 };

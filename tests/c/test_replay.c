@@ -275,9 +275,9 @@ static void test_counts(void)
 static void test_lengths(void)
 {
     static const uint16_t lengths[][2] = {
-        {47, 48}, {49, 48}, {48, 47}, {48, 49},       {0, 0},         {0, 95},
-        {0, 97},  {97, 0},  {96, 1},  {65535, 97},    {97, 65535},    {32816, 32816},
-        {304, 48}, {48, 304}, {65535, 65535},
+        {47, 48}, {49, 48}, {48, 47}, {48, 49}, {0, 0}, {0, 95}, {0, 97}, {97, 0}, {96, 1},
+        /* Right modulo 2^8 or 2^16, and the most. */
+        {304, 48}, {48, 304}, {65535, 97}, {97, 65535}, {32816, 32816}, {65535, 65535},
     };
 
     CASE("the example, whose entries say other lengths");
@@ -727,13 +727,13 @@ static void test_order_of_fields(void)
 /* What the entries of random recordings gave: their numbers, 0 to 19, and more that was met. */
 static unsigned long met[20];
 static unsigned long met_entries;
-static unsigned long met_settings;      /* settings in a datagram that was read */
-static unsigned long met_mixed;         /* an accepted item beside a refused one */
-static unsigned long met_two_refusals;  /* the last refusal is another than the first */
-static unsigned long met_presented;     /* targets by presentation */
-static unsigned long met_by_arrival;    /* targets by arrival */
-static unsigned long met_none;          /* no target though there are entries */
-static unsigned long met_unread_last;   /* targets at a reading whose datagram the reader refuses */
+static unsigned long met_settings;     /* settings in a datagram that was read */
+static unsigned long met_mixed;        /* an accepted item beside a refused one */
+static unsigned long met_two_refusals; /* the last refusal is another than the first */
+static unsigned long met_presented;    /* targets by presentation */
+static unsigned long met_by_arrival;   /* targets by arrival */
+static unsigned long met_none;         /* no target though there are entries */
+static unsigned long met_unread_last;  /* targets at a reading whose datagram the reader refuses */
 
 #define PICK(array) ((array)[(next_random() >> 16) % LENGTH(array)])
 
