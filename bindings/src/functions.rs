@@ -1,7 +1,7 @@
 //! The functions of include/prunepocket.h, in its order.
 
 use crate::structs::{
-    Answer, Answered, DatagramAnswered, Followed, Origin, Place, Reading, Record, Table,
+    Answer, Answered, DatagramAnswered, Followed, Origin, Place, Reading, Record, Replayed, Table,
 };
 
 extern "C" {
@@ -83,4 +83,10 @@ extern "C" {
     pub fn prunepocket_count_members(table: Table) -> u32;
     pub fn prunepocket_member_at(table: Table, place: usize) -> Place;
     pub fn prunepocket_choose(table: Table, reading: Reading) -> Followed;
+    pub fn prunepocket_replay(
+        recording: *const u8,
+        length: usize,
+        rows: *mut u64,
+        rows_length: usize,
+    ) -> Replayed;
 }

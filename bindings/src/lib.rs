@@ -5,6 +5,7 @@
 // Public for values of reduced_size that a bool cannot say.
 pub mod functions;
 mod messages;
+mod recordings;
 mod structs;
 mod table;
 
@@ -12,7 +13,9 @@ pub use messages::{
     count_items, item_field, read_items, read_sync_group, write_report, write_settings,
     write_sync_group, Refusal, ReportMessage, SettingsMessage,
 };
+pub use recordings::replay;
 pub use structs::{
     layout, Answer, Answered, DatagramAnswered, Followed, Member, Origin, Place, Reading, Record,
-    ReportFields, Table, Target, BURST_LIMIT, PLACES, TALLY_LIMIT,
+    Replayed, ReportFields, Table, Target, BURST_LIMIT, ENTRY_ACCEPTED, ENTRY_ITEMS, ENTRY_LIMIT,
+    ENTRY_NUMBER, ENTRY_ROW, PLACES, RECORDING_LIMIT, TALLY_LIMIT,
 };

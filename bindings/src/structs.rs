@@ -12,6 +12,21 @@ pub const BURST_LIMIT: usize = 64;
 /// Where a member's tally stops.
 pub const TALLY_LIMIT: u32 = 4_294_967_295;
 
+/// The most bytes of a recording.
+pub const RECORDING_LIMIT: usize = 65_536;
+
+/// The most entries of a recording.
+pub const ENTRY_LIMIT: usize = 256;
+
+/// The columns of an entry's row: its items, how many of its reports and
+/// farewells were accepted, and its refusal's number or 0.
+pub const ENTRY_ITEMS: usize = 0;
+pub const ENTRY_ACCEPTED: usize = 1;
+pub const ENTRY_NUMBER: usize = 2;
+
+/// Columns of an entry's row.
+pub const ENTRY_ROW: usize = 3;
+
 /// Declares each struct in C's layout, and the lines of `layout`.
 macro_rules! c_structs {
     ($(
@@ -150,5 +165,16 @@ c_structs! {
         pub target: Target,
         /// The table as it was.
         pub table: Table,
+    }
+
+    /// What replaying a recording answers.
+    pub struct Replayed {
+        pub number: u64,
+        /// 0 after a refusal.
+        pub entries: u64,
+        /// 0 beside a target, else 20.
+        pub choice: u64,
+        /// Zeros where there is none.
+        pub target: Target,
     }
 }
