@@ -3,7 +3,7 @@
 //! times, also where they are spoilt.
 
 use crate::decoder::decode;
-use crate::generator::{self, Compound, Rng};
+use crate::generator::{self, Compound, Rng, Start};
 use crate::histories::{history_with_world, Step, World};
 use crate::items::{Item, Report, Settings};
 use crate::members::{Burst, Call, Opening, Origin, Reading};
@@ -90,19 +90,25 @@ fn datagram(rng: &mut Rng, world: &mut World, origin: &Origin) -> Vec<u8> {
         return generator::datagram(rng);
     }
     let start = generator::start(rng);
-    let mut compound = match rng.chance(65) {
-        true => generator::crowded(rng, start),
-        false => generator::valid(rng, start),
-    };
-    fit(rng, world, origin, &mut compound);
+    let mut compound = fitted(rng, world, origin, start);
     if rng.chance(35) {
         generator::spoil(rng, &mut compound);
     }
     compound.bytes
 }
 
+/// A valid compound that fits the table.
+pub(crate) fn fitted(rng: &mut Rng, world: &mut World, origin: &Origin, start: Start) -> Compound {
+    let mut compound = match rng.chance(65) {
+        true => generator::crowded(rng, start),
+        false => generator::valid(rng, start),
+    };
+    fit(rng, world, origin, &mut compound);
+    compound
+}
+
 /// Makes most packets with items speak of the world's sources and times.
-fn fit(rng: &mut Rng, world: &mut World, origin: &Origin, compound: &mut Compound) {
+pub(crate) fn fit(rng: &mut Rng, world: &mut World, origin: &Origin, compound: &mut Compound) {
     let mut packet = None;
     let mut sender = None;
     for index in 0..compound.items.len() {

@@ -155,6 +155,11 @@ pub fn crowded(rng: &mut Rng, start: Start) -> Compound {
         14..=18 => rng.between(12, 200) * 4,
         _ => LONGEST,
     };
+    crowded_up_to(rng, start, limit)
+}
+
+/// The same of at most so many bytes, and nearly so many.
+pub fn crowded_up_to(rng: &mut Rng, start: Start, limit: usize) -> Compound {
     let mut compound = Compound::default();
     compound.fill_with_items(rng, start, limit);
     compound

@@ -59,10 +59,8 @@ pub fn history(rng: &mut Rng) -> History {
 
 /// A history, and the world as it leaves it.
 pub(crate) fn history_with_world(rng: &mut Rng) -> (History, World) {
-    let opening = opening(rng);
-    let temper = Temper::any(rng);
-    let length = temper.length;
-    let mut world = World::new(rng, opening, temper);
+    let mut world = World::any(rng);
+    let (opening, length) = (world.opening, world.temper.length);
     let mut steps = world.fill(rng);
     steps.extend((0..length).map(|_| world.step(rng)));
     (History { opening, steps }, world)
@@ -193,7 +191,7 @@ impl Temper {
 
 /// The clocks and the senders of a history.
 pub(crate) struct World {
-    opening: Opening,
+    pub(crate) opening: Opening,
     temper: Temper,
     sources: Vec<u32>,
     origins: Vec<Origin>,
@@ -202,7 +200,10 @@ pub(crate) struct World {
 }
 
 impl World {
-    fn new(rng: &mut Rng, opening: Opening, temper: Temper) -> Self {
+    /// Before its first call.
+    pub(crate) fn any(rng: &mut Rng) -> Self {
+        let opening = opening(rng);
+        let temper = Temper::any(rng);
         World {
             opening,
             sources: sources(rng, temper.sources),
@@ -211,6 +212,11 @@ impl World {
             recent: Vec::new(),
             temper,
         }
+    }
+
+    /// How many sources report in turn beforehand.
+    pub(crate) fn filled(&self) -> usize {
+        self.temper.filled
     }
 
     /// A report of each of the first sources, in turn; at times as many of them as
@@ -365,7 +371,7 @@ impl World {
     }
 
     /// Both clocks after a time, which may be negative.
-    fn later(&self, passed: u64) -> Reading {
+    pub(crate) fn later(&self, passed: u64) -> Reading {
         Reading {
             ntp: self.clock.ntp.wrapping_add(passed),
             rtp: self.clock.rtp.wrapping_add(self.ticks(passed)),

@@ -29,6 +29,7 @@ pub mod members;
 pub mod places;
 pub mod plain_reports;
 pub mod recording;
+pub mod recordings;
 pub mod register;
 pub mod rejoins;
 pub mod replay;
