@@ -94,13 +94,13 @@ impl Comparison {
         self.counts.datagrams += 1;
         for reduced_size in [false, true] {
             let told = Told {
-                datagram: lent.datagram(),
+                datagram: lent.bytes(),
                 reduced_size,
             };
             self.check_told(told)
                 .map_err(|difference| format!("reduced size {reduced_size}, {difference}"))?;
         }
-        self.check_alike(lent.datagram())
+        self.check_alike(lent.bytes())
     }
 
     fn check_told(&mut self, told: Told) -> Verdict {
@@ -370,8 +370,8 @@ pub fn hex(bytes: &[u8]) -> String {
     words.join(" ")
 }
 
-/// A datagram at any alignment, with noise behind its end, so that reading
-/// past the end does not go unseen.
+/// A datagram, or a recording, at any alignment, with noise behind its end, so that
+/// reading past the end does not go unseen.
 pub(crate) struct Lent {
     memory: Vec<u8>,
     start: usize,
@@ -380,17 +380,23 @@ pub(crate) struct Lent {
 
 impl Lent {
     pub(crate) fn new(rng: &mut Rng, datagram: &[u8]) -> Self {
+        Lent::before(rng, datagram, &[])
+    }
+
+    /// With these bytes between its end and the noise.
+    pub(crate) fn before(rng: &mut Rng, datagram: &[u8], behind: &[u8]) -> Self {
         let start = rng.below(8);
         let mut memory = vec![0; start];
         memory.extend(datagram);
         let end = memory.len();
+        memory.extend(behind);
         for _ in 0..4 {
             memory.extend(rng.number().to_be_bytes());
         }
         Lent { memory, start, end }
     }
 
-    pub(crate) fn datagram(&self) -> &[u8] {
+    pub(crate) fn bytes(&self) -> &[u8] {
         &self.memory[self.start..self.end]
     }
 }

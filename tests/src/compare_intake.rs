@@ -298,7 +298,7 @@ type Taken = (DatagramAnswered, Vec<u64>);
 fn take(table: &Table, lent: &Lent, reduced_size: bool, arrival: &Arrival) -> Taken {
     let mut memory = vec![BEFORE; LIST_GUARD + arrival.length + LIST_GUARD];
     let taken = table.take_datagram(
-        lent.datagram(),
+        lent.bytes(),
         reduced_size,
         &arrival.origin,
         &arrival.reading,
