@@ -1,34 +1,36 @@
 //! Plants each fault in the decoder, in the encoder, in the reader and writer of
 //! site files' lines, in the register, in bursts, in the tallies, in those of new
-//! members, in the rule of places and in the intake, and asserts that the comparison
-//! finds it.
+//! members, in the rule of places, in the intake and in the replay of recordings, and
+//! asserts that the comparison finds it.
 
 use prunepocket_tests::arrivals::Course;
 use prunepocket_tests::call_history::TALLY_LIMIT;
 use prunepocket_tests::compare::{Comparison, Verdict};
 use prunepocket_tests::compare_intake::{self, IntakeComparison};
+use prunepocket_tests::compare_replay::{self, ReplayComparison};
 use prunepocket_tests::compare_site_lines::LineComparison;
 use prunepocket_tests::compare_table::{self, TableComparison};
 use prunepocket_tests::compare_writers::WriterComparison;
 use prunepocket_tests::encoder::Message;
 use prunepocket_tests::generator::{self, Rng};
 use prunepocket_tests::histories::History;
-use prunepocket_tests::{arrivals, histories, limit_histories, site_lines, sync_group};
+use prunepocket_tests::{arrivals, histories, limit_histories, recordings, site_lines};
 use prunepocket_tests::{burst, call_history, decoder, encoder, intake};
-use prunepocket_tests::{places, register, rejoins};
+use prunepocket_tests::{places, recording, register, rejoins, replay, sync_group};
 use std::borrow::Borrow;
 use std::fmt::Debug;
 use std::iter::once;
 use std::process::exit;
 
 /// Each fault has to be found within so many datagrams, messages, lines,
-/// histories or courses.
+/// histories, courses or recordings.
 const BOUND: u64 = 20_000;
 
 /// Written tallies that a fault of the limit leaves alone.
 const BELOW_LIMIT: [u32; 2] = [TALLY_LIMIT - 1, TALLY_LIMIT - 2];
 
-/// Which datagram, message, line, history or course showed the fault, and how.
+/// Which datagram, message, line, history, course or recording showed the fault, and
+/// how.
 type Found = Option<(u64, String)>;
 
 fn main() {
@@ -59,6 +61,7 @@ fn main() {
     for fault in intake::Fault::ALL {
         missed |= !print_found(fault, "course", in_courses(seed, fault));
     }
+    missed |= !recordings_find_all(seed);
     if missed {
         exit(1);
     }
@@ -148,12 +151,34 @@ fn places_find_all(seed: u64) -> bool {
     found
 }
 
+/// Each fault of the replay, of the layout, and of the intake and the register below
+/// the replay.
+fn recordings_find_all(seed: u64) -> bool {
+    let mut found = true;
+    for fault in replay::Fault::PLAIN {
+        found &= print_found(fault, "recording", in_recordings(seed, fault));
+    }
+    for fault in recording::Fault::ALL {
+        let planted = replay::Fault::Recording(fault);
+        found &= print_found(fault, "recording", in_recordings(seed, planted));
+    }
+    for fault in replay::Fault::OF_INTAKE {
+        let planted = replay::Fault::Intake(fault);
+        found &= print_found(fault, "recording", in_recordings(seed, planted));
+    }
+    for fault in replay::Fault::OF_REGISTER {
+        let planted = replay::Fault::Intake(intake::Fault::Register(fault));
+        found &= print_found(fault, "recording", in_recordings(seed, planted));
+    }
+    found
+}
+
 /// Whether the fault was found.
 fn print_found(fault: impl Debug, unit: &str, found: Found) -> bool {
     let name = format!("{fault:?}");
     match &found {
         Some((run, difference)) => {
-            println!("{name:<28} found in {unit:<8} {run:>6}: {difference}");
+            println!("{name:<28} found in {unit:<9} {run:>6}: {difference}");
         }
         None => println!("{name:<28} FAILED: not found in any {unit}"),
     }
@@ -268,5 +293,18 @@ fn in_these_courses(
     )?;
     let course = compare_intake::smallest(seed, Some(fault), &course);
     let difference = IntakeComparison::new(seed, Some(fault)).check(&course);
+    difference.err().map(|difference| (run, difference))
+}
+
+/// The difference is that of the smallest recording with the fault in it.
+fn in_recordings(seed: u64, fault: replay::Fault) -> Found {
+    let mut comparison = ReplayComparison::new(seed, Some(fault));
+    let (run, recording, _) = hunt(
+        generated(seed, recordings::replay),
+        |recording| comparison.check(recording),
+        |recording| ReplayComparison::new(seed, None).check(recording),
+    )?;
+    let recording = compare_replay::smallest(seed, Some(fault), &recording);
+    let difference = ReplayComparison::new(seed, Some(fault)).check(&recording);
     difference.err().map(|difference| (run, difference))
 }
