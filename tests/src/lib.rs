@@ -28,6 +28,7 @@ pub mod items;
 pub mod limit_histories;
 pub mod members;
 pub mod places;
+pub mod plain_recordings;
 pub mod plain_reports;
 pub mod recording;
 pub mod recording_counts;
