@@ -36,11 +36,11 @@ pub fn one(name: &'static str, reduced_size: bool, datagram: Vec<u8>) -> Input {
 }
 
 /// An RR of 8 bytes with count 0.
-fn receiver_report() -> Vec<u8> {
+pub fn receiver_report() -> Vec<u8> {
     vec![0x80, 201, 0, 1, 0, 0, 0, 1]
 }
 
-fn put_header(datagram: &mut Vec<u8>, count: usize, packet_type: u8, words: usize) {
+pub fn put_header(datagram: &mut Vec<u8>, count: usize, packet_type: u8, words: usize) {
     let length = (words - 1) as u16;
     datagram.extend([0x80 | count as u8, packet_type]);
     datagram.extend(length.to_be_bytes());

@@ -7,7 +7,9 @@ mod inputs;
 mod messages;
 mod peer;
 mod peer_encoder;
+mod peer_replay;
 mod peer_table;
+mod recordings;
 mod tables;
 
 use inputs::{Input, Random};
@@ -69,6 +71,7 @@ fn main() {
     print_writes("settings", SETTINGS_WRITERS, &messages::settings());
     tables::print();
     bursts::print();
+    recordings::print();
 }
 
 /// Panics where the archive and the peer differ on an input, or on copies of

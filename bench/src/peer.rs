@@ -3,6 +3,7 @@
 //! nothing. Written for speed: no allocation, whole words, and a second walk
 //! that repeats no check of the first.
 
+use crate::peer_table::Report;
 use prunepocket_sys::Refusal;
 
 /// Columns of a row: kind, place, source, group, media source, received, RTP,
@@ -21,6 +22,12 @@ const P: u32 = 0x2000_0000;
 
 type Word = [u8; 4];
 type Row = [u64; ROW];
+
+/// An item that the member table is told of.
+pub enum Call {
+    Report(Report),
+    Farewell(u32),
+}
 
 /// A refusal at a word.
 #[inline(always)]
@@ -49,6 +56,22 @@ pub fn read_items(datagram: &[u8], reduced_size: bool, rows: &mut [u64]) -> Resu
     // Without items there is nothing to walk for again.
     if count > 0 {
         fill(words, rows.as_chunks_mut().0);
+    }
+    Ok(count as u64)
+}
+
+/// Each report and farewell to `call`, in datagram order, once the whole datagram is
+/// checked; how many items there are.
+#[inline(always)]
+pub fn each_call(
+    datagram: &[u8],
+    reduced_size: bool,
+    call: impl FnMut(Call),
+) -> Result<u64, Refusal> {
+    let words = words_of(datagram)?;
+    let count = check(words, reduced_size)?;
+    if count > 0 {
+        make_calls(words, call);
     }
     Ok(count as u64)
 }
@@ -260,4 +283,61 @@ fn fill_settings(packet: &[Word], start: usize, rows: &mut [Row]) -> usize {
         0,
     ];
     1
+}
+
+/// The calls of a datagram that was checked; settings are passed by.
+#[inline(always)]
+fn make_calls(words: &[Word], mut call: impl FnMut(Call)) {
+    let mut start = 0;
+    while start < words.len() {
+        let header = u32::from_be_bytes(words[start]);
+        let packet = &words[start..start + length(header)];
+        match packet_type(header) {
+            203 => {
+                for source in &packet[1..1 + count_of(header)] {
+                    call(Call::Farewell(u32::from_be_bytes(*source)));
+                }
+            }
+            207 => report_calls(packet, &mut call),
+            _ => {}
+        }
+        start += packet.len();
+    }
+}
+
+#[inline(always)]
+fn report_calls(packet: &[Word], call: &mut impl FnMut(Call)) {
+    let content = match u32::from_be_bytes(packet[0]) & P {
+        0 => packet,
+        _ => &packet[..packet.len() - padding(packet)],
+    };
+    let sender = u32::from_be_bytes(packet[1]);
+    let mut at = 2;
+    while at < content.len() {
+        let header = u32::from_be_bytes(content[at]);
+        if header >> 24 == 12 {
+            if header >> 20 & 0xF == 1 {
+                call(Call::Report(report_fields(&content[at..at + 8], sender)));
+            }
+            at += 8;
+        } else {
+            at += length(header);
+        }
+    }
+}
+
+#[inline(always)]
+fn report_fields(block: &[Word], sender: u32) -> Report {
+    let block = &block[..8];
+    let p = block[0][1] & 1 == 1;
+    Report {
+        sender,
+        payload_type: block[1][0] >> 1,
+        p,
+        group: u32::from_be_bytes(block[2]),
+        media: u32::from_be_bytes(block[3]),
+        received: long(block[4], block[5]),
+        rtp: u32::from_be_bytes(block[6]),
+        presented: if p { u32::from_be_bytes(block[7]) } else { 0 },
+    }
 }
