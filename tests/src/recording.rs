@@ -90,6 +90,8 @@ pub enum Fault {
     LimitRefused,
     /// A recording of 65,537 bytes is taken.
     LongTaken,
+    /// Only the first 65,536 bytes are looked at.
+    FrontTaken,
     /// The length of the recording wraps at 2^16.
     LengthWraps,
     /// A head that is cut short is taken, with zeros behind it.
@@ -157,9 +159,10 @@ pub enum Fault {
 }
 
 impl Fault {
-    pub const ALL: [Fault; 37] = [
+    pub const ALL: [Fault; 38] = [
         Fault::LimitRefused,
         Fault::LongTaken,
+        Fault::FrontTaken,
         Fault::LengthWraps,
         Fault::HeadCutTaken,
         Fault::NoEntriesRefused,
@@ -205,6 +208,7 @@ pub fn read(bytes: &[u8]) -> Result<Recording, BadLayout> {
 
 pub fn read_with(bytes: &[u8], fault: Option<Fault>) -> Result<Recording, BadLayout> {
     let bytes = match fault {
+        Some(Fault::FrontTaken) => &bytes[..bytes.len().min(RECORDING_LIMIT)],
         Some(Fault::LengthWraps) => &bytes[..bytes.len() % 65_536],
         _ => bytes,
     };

@@ -54,6 +54,8 @@ pub struct Changes {
 pub struct BadLayouts {
     byte_too_long: u64,
     too_long: u64,
+    /// Too long, though its first 65,536 bytes are a recording.
+    good_front: u64,
     head_cut: u64,
     one_entry_more: u64,
     many_entries: u64,
@@ -268,12 +270,16 @@ impl BadLayouts {
             BadLayout::BytesBehind(_) => &mut self.bytes_behind,
         };
         *reason += 1;
+        if let (BadLayout::TooLong, Some(front)) = (bad, bytes.get(..RECORDING_LIMIT)) {
+            self.good_front += u64::from(read(front).is_ok());
+        }
     }
 
     fn lines(&self) -> Vec<Line> {
         lines([
             ("25, a byte over 65,536", self.byte_too_long),
             ("25, more bytes", self.too_long),
+            ("25, more behind 65,536", self.good_front),
             ("25, head cut short", self.head_cut),
             ("25, 257 entries", self.one_entry_more),
             ("25, more entries", self.many_entries),

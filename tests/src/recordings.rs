@@ -120,13 +120,17 @@ fn lengthen(bytes: &mut [u8], contents: usize, by: u16) {
 /// The next recording of a run.
 pub fn replay(rng: &mut Rng) -> Replay {
     let recording = recording(rng);
-    let changes = match rng.below(100) {
+    let count = match rng.below(100) {
         0..=64 => 0,
         65..=96 => 1,
         _ => 2,
     };
+    let mut changes: Vec<Change> = (0..count).map(|_| change(rng, &recording)).collect();
+    if recording.size() == RECORDING_LIMIT && rng.chance(25) {
+        changes.push(Change::Added(rng.pick(&[1, 4, 32, 65_536])));
+    }
     Replay {
-        changes: (0..changes).map(|_| change(rng, &recording)).collect(),
+        changes,
         spare: spare(rng, recording.entries.len()),
         recording,
     }

@@ -207,7 +207,10 @@ fn a_recording_of_more_than_65536_bytes_is_refused() {
             let bytes = recording(made.collect()).write();
             assert_eq!(bytes.len(), RECORDING_LIMIT + more);
             match more {
-                0 => assert_eq!(replayed(&bytes, ENTRY_ROW * entries).0.number, 0),
+                0 => {
+                    assert_eq!(replayed(&bytes, ENTRY_ROW * entries).0.number, 0);
+                    assert_refused(&[&bytes[..], &[0]].concat(), ENTRY_ROW * entries, 25);
+                }
                 _ => assert_refused(&bytes, ENTRY_ROW * entries, 25),
             }
             bodies[more % entries].push(0);

@@ -144,6 +144,19 @@ fn a_twin_at_another_entrys_origin_is_refused() {
     }
 }
 
+/// No entry takes out members that are no longer fresh.
+#[test]
+fn a_stale_member_keeps_its_number() {
+    let twin = |seconds: u32| {
+        let told = record(1, PORT + 1, seconds - 1);
+        entry(seconds, PORT + 1, datagram(&[report(&told)]))
+    };
+    let leaves = entry(2000, PORT, datagram(&[farewells(&[1])]));
+    let entries = vec![reports([1]), twin(1030), twin(2000), leaves, twin(2000)];
+    let expected = [[1, 1, 0], [1, 0, 14], [1, 0, 14], [1, 1, 0], [1, 1, 0]];
+    assert_eq!(rows(entries), expected);
+}
+
 /// A report that is as old as can be after 1000 s: one more unit of N gives 15, and
 /// one more of R 16.
 fn oldest(source: u32) -> Record {
