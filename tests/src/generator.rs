@@ -165,6 +165,13 @@ pub fn crowded_up_to(rng: &mut Rng, start: Start, limit: usize) -> Compound {
     compound
 }
 
+/// As many farewells as a datagram holds.
+pub fn many_farewells(rng: &mut Rng, start: Start) -> Compound {
+    let mut compound = Compound::default();
+    compound.fill_with_farewells(rng, start, LONGEST);
+    compound
+}
+
 pub fn valid(rng: &mut Rng, start: Start) -> Compound {
     let limit = match rng.below(20) {
         0..=10 => rng.between(2, 60) * 4,

@@ -225,6 +225,11 @@ fn entry(
 
 /// A datagram for a table, or any other bytes.
 fn body(rng: &mut Rng, world: &mut World, origin: &Origin) -> Vec<u8> {
+    if rng.below(1500) == 0 {
+        let mut compound = generator::many_farewells(rng, Start::Report);
+        fit(rng, world, origin, &mut compound);
+        return compound.bytes;
+    }
     let start = match rng.below(100) {
         0..=1 => return Vec::new(),
         2..=3 => return without_items(long(rng)),
