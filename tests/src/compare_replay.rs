@@ -46,30 +46,16 @@ impl ReplayComparison {
         let replayed = prunepocket_sys::replay(lent.bytes(), &mut memory[rows.clone()]);
         let call = format_args!("{} bytes, rows of {length}", bytes.len());
         same(call, &replayed.number, &expected.number)?;
-        same(
-            format_args!("entries"),
-            &replayed.entries,
-            &expected.entries,
-        )?;
+        let (entries, expected_entries) = (replayed.entries, expected.entries);
+        same(format_args!("entries"), &entries, &expected_entries)?;
         check_rows(&memory, &expected_memory)?;
-        check_choice(&replayed, &expected)?;
+        let choice = |replayed: &Replayed| (replayed.choice, replayed.target);
+        let (choice, expected) = (choice(&replayed), choice(&expected));
+        same(format_args!("the choice"), &choice, &expected)?;
         let singles = check_single_calls(&bytes, &replayed, &memory[rows])?;
         self.counts.count(replay, &bytes, &replayed, &singles);
         Ok(())
     }
-}
-
-fn check_choice(replayed: &Replayed, expected: &Replayed) -> Verdict {
-    same(
-        format_args!("the choice"),
-        &replayed.choice,
-        &expected.choice,
-    )?;
-    same(
-        format_args!("the target"),
-        &replayed.target,
-        &expected.target,
-    )
 }
 
 /// The lent rows between numbers that are not lent, after a call.
@@ -112,12 +98,8 @@ fn check_single_calls(
         }
     };
     let mut singles = Vec::new();
-    for (index, (entry, row)) in recording
-        .entries
-        .iter()
-        .zip(rows.chunks(ENTRY_ROW))
-        .enumerate()
-    {
+    let entries = recording.entries.iter().zip(rows.chunks(ENTRY_ROW));
+    for (index, (entry, row)) in entries.enumerate() {
         let single = single_calls(&mut table, entry)?;
         same(format_args!("entry {index} alone"), &&single.row[..], &row)?;
         singles.push(single);
@@ -133,14 +115,10 @@ fn check_single_calls(
 fn single_calls(table: &mut Table, entry: &Entry) -> Result<Single, String> {
     let count = Table::count_items(&entry.body, false);
     let taken = table.take(&entry.body, false, &entry.origin, &entry.reading);
-    let refusals = (count.err(), taken.as_ref().err().copied());
-    same(
-        format_args!("counting, then taking"),
-        &refusals.0,
-        &refusals.1,
-    )?;
+    let refusal = taken.as_ref().err().copied();
+    same(format_args!("counting and taking"), &count.err(), &refusal)?;
     let (Ok(items), Ok(numbers)) = (count, taken) else {
-        let number = refusals.0.map_or(0, |refusal| refusal.number);
+        let number = refusal.map_or(0, |refusal| refusal.number);
         return Ok(Single {
             row: [0, 0, number],
             numbers: Vec::new(),
