@@ -78,10 +78,10 @@ fn mixed() -> Vec<u8> {
             _ => record(source),
         };
         let mut body = datagram(&sent, 1, 0);
-        if entry % 3 == 0 {
+        if entry.is_multiple_of(3) {
             put_settings(&mut body, source);
         }
-        if entry % 7 == 0 {
+        if entry.is_multiple_of(7) {
             body.extend(&farewells(64)[8..]);
         }
         (sent, body)

@@ -6,7 +6,7 @@ use crate::archive;
 use crate::compare::{same, Lent, Verdict, LIST_GUARD};
 use crate::compare_table::fewest;
 use crate::generator::Rng;
-use crate::members::{Choice, Target};
+use crate::members::Choice;
 use crate::recording::{read, Entry, Recording};
 use crate::recording_counts::Counts;
 use crate::recordings::Replay;
@@ -107,7 +107,7 @@ fn check_single_calls(
     let choice = choice(&recording, &table);
     let number = choice.err().unwrap_or(0);
     same(format_args!("choosing alone"), &number, &replayed.choice)?;
-    let target = choice.unwrap_or(Target::default());
+    let target = choice.unwrap_or_default();
     same(format_args!("the target alone"), &target, &replayed.target)?;
     Ok(singles)
 }

@@ -373,7 +373,7 @@ impl<'a> Reader<'a> {
         match self.fault {
             Some(Fault::EmptyBodyRefused) => length == 0,
             Some(Fault::LongBodyRefused) => length > LONGEST_DATAGRAM,
-            Some(Fault::OddBodyRefused) => length % 4 != 0,
+            Some(Fault::OddBodyRefused) => !length.is_multiple_of(4),
             _ => false,
         }
     }

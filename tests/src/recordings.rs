@@ -296,7 +296,7 @@ pub fn report_datagram(told: &Record) -> Vec<u8> {
 /// of whole words; zeros otherwise.
 pub fn without_items(length: usize) -> Vec<u8> {
     let mut bytes = vec![0; length];
-    if length >= 12 && length % 4 == 0 {
+    if length >= 12 && length.is_multiple_of(4) {
         let words = (length - 8) / 4 - 1;
         bytes[..8].copy_from_slice(&[0x80, 201, 0, 1, 0, 0, 0, 1]);
         bytes[8..12].copy_from_slice(&[0x80, 202, (words >> 8) as u8, words as u8]);

@@ -8,7 +8,7 @@ use crate::arrivals::Arrival;
 use crate::decoder::decode;
 use crate::intake::{self, Intake};
 use crate::items::{Item, PlacedItem};
-use crate::members::{Call, Choice, Reading, Target};
+use crate::members::{Call, Choice, Reading};
 use crate::plain_reports::OPENING;
 use crate::recording::{self, read_opening, read_with, Entry, Recording};
 use crate::register;
@@ -422,7 +422,7 @@ fn answer(entries: usize, choice: Choice) -> Replayed {
         number: 0,
         entries: entries as u64,
         choice: choice.err().unwrap_or(0),
-        target: choice.unwrap_or(Target::default()),
+        target: choice.unwrap_or_default(),
     }
 }
 
