@@ -424,19 +424,30 @@ mod tests {
     }
 
     #[test]
-    fn a_change_leaves_what_it_does_not_name() {
+    fn a_recording_without_changes_is_read() {
         let mut rng = Rng::new(generator::seed());
         for _ in 0..300 {
-            let replay = replay(&mut rng);
-            let plain = Replay {
+            let made = Replay {
                 changes: Vec::new(),
-                ..replay.clone()
+                ..replay(&mut rng)
             };
-            let (bytes, behind) = plain.file();
+            let (bytes, behind) = made.file();
             assert!(behind.is_empty());
-            if bytes.len() <= RECORDING_LIMIT && replay.recording.entries.len() <= ENTRY_LIMIT {
-                assert_eq!(read(&bytes), Ok(replay.recording.clone()));
+            if bytes.len() <= RECORDING_LIMIT && made.recording.entries.len() <= ENTRY_LIMIT {
+                assert_eq!(read(&bytes), Ok(made.recording));
             }
+        }
+    }
+
+    #[test]
+    fn what_was_cut_off_stands_behind() {
+        let mut made = replay(&mut Rng::new(generator::seed()));
+        let whole = made.recording.write();
+        for count in [0, 1, whole.len(), whole.len() + 1] {
+            made.changes = vec![Change::Cut(count)];
+            let (bytes, behind) = made.file();
+            assert_eq!(behind.len(), count.min(whole.len()));
+            assert_eq!([bytes, behind].concat(), whole);
         }
     }
 }
