@@ -178,7 +178,7 @@ fn fill(rng: &mut Rng, world: &mut World) -> Vec<Entry> {
 
 /// Up to so many entries, each no longer than its share of the longest recording.
 fn add_entries(rng: &mut Rng, world: &mut World, recording: &mut Recording, count: usize) {
-    let room = (RECORDING_LIMIT - HEAD) / count.max(1) - CONTENTS;
+    let room = (RECORDING_LIMIT - HEAD) / count - CONTENTS;
     while recording.entries.len() < count {
         let entry = entry(rng, world, |rng, world, origin| {
             let body = body(rng, world, origin);
