@@ -70,6 +70,8 @@ pub fn farewells(sources: &[u32]) -> Vec<u8> {
 /// What the archive answers with rows of this length, which is what the independent
 /// side answers, and the rows. The memory around them is as before.
 pub fn replayed(bytes: &[u8], length: usize) -> (Replayed, Vec<u64>) {
+    // In memory of their own, so that valgrind sees a read past the end.
+    let bytes = &bytes.to_vec();
     let run = |replay: fn(&[u8], &mut [u64]) -> Replayed| {
         let mut memory = vec![BEFORE; GUARD + length + GUARD];
         let replayed = replay(bytes, &mut memory[GUARD..GUARD + length]);
