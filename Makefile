@@ -1,6 +1,7 @@
 # make test     every check, as .ci/run does
 # make run      the receiving bench: the papers' cases and the twins, each with what was expected and what came
 # make show     shows the items of the sample datagrams
+# make replay   runs the example recording through a member table
 # make archive  target/staticlib/libprunepocket.a, for C or Rust to link
 # make install  header, archive and pkg-config file under PREFIX, by way of DESTDIR
 # make host     the example host, on the loopback
@@ -17,7 +18,7 @@ DESTDIR =
 
 ARCHIVE = target/staticlib/libprunepocket.a
 
-.PHONY: test run show archive install host ctest rtest bench fuzz fuzz-faults clean
+.PHONY: test run show replay archive install host ctest rtest bench fuzz fuzz-faults clean
 
 test:
 	@tools/test
@@ -30,6 +31,10 @@ show:
 	rt check show_datagram
 	target/bin/show_datagram < samples/compound.bin
 	target/bin/show_datagram --reduced-size < samples/reduced.bin
+
+replay:
+	rt check replay_recording
+	target/bin/replay_recording < crates/replay_recording/stdin
 
 archive:
 	tools/archive
