@@ -2,8 +2,8 @@
 // breaks a rule is refused and has no count.
 use idms::Refusal;
 use packet::Block;
-use packet::Entry;
 use packet::Head;
+use packet::PacketHead;
 use packet::PacketType;
 use packet::block_at;
 use packet::head_at;
@@ -72,10 +72,10 @@ fn count_packets(d: &[u8], reduced: bool) -> Count
     let mut n: usize = 0;
     while p < d.len() {
         match head_at(d, reduced, p) {
-            Entry::Refused(number) => {
+            PacketHead::Refused(number) => {
                 return Count::Refused(Refusal { number, place: p });
             }
-            Entry::Head(h) => match count_content(d, p, h) {
+            PacketHead::Head(h) => match count_content(d, p, h) {
                 Count::Refused(r) => {
                     return Count::Refused(r);
                 }

@@ -7,7 +7,7 @@ use lib.ListN.{length}
 use lib.Dec.{ltb}
 use Rattle.idms.specs.declared.Report.{Report}
 use Rattle.packet.specs.declared.header.Head.{Head}
-use Rattle.packet.specs.declared.header.Entry.{Entry}
+use Rattle.packet.specs.declared.header.PacketHead.{PacketHead}
 use Rattle.packet.specs.declared.contents.Packet.{Packet}
 use Rattle.packet.specs.declared.block.Block.{Block}
 use Rattle.packet.specs.declared.block.BlockItem.{BlockItem}
@@ -25,13 +25,13 @@ use Rattle.packet.specs.Contents.{contents, readable}
 abbrev pub headOf : List ℕ → ℕ → Head
 headOf d p = record { kind = kind d p; count = count d p; bytes = size d p; content = content d p }
 
-abbrev pub headUnless : Check → Head → Entry
-headUnless passed h = Entry.Head h
-headUnless (refused number place) h = Entry.Refused number
+abbrev pub headUnless : Check → Head → PacketHead
+headUnless passed h = PacketHead.Head h
+headUnless (refused number place) h = PacketHead.Refused number
 
 -- the header of the packet at p
-unfoldable pub entry : Bool → List ℕ → ℕ → Entry
-entry reduced d p = headUnless (headCheck reduced d p) (headOf d p)
+unfoldable pub headIs : Bool → List ℕ → ℕ → PacketHead
+headIs reduced d p = headUnless (headCheck reduced d p) (headOf d p)
 
 -- what the packet at p holds
 unfoldable pub packetIs : List ℕ → ℕ → Packet

@@ -16,7 +16,7 @@ ghost use Prim.Native.Nat.{_+_, _-_, _/_, _%_, _≤_};
 ghost use lib.ListN.{length};
 ghost use lib.Dec.{eqb, ltb};
 ghost use Rattle.packet.specs.Packet.{size, paddingIsBad, content, kindOf, firstIsBad};
-ghost use Rattle.packet.specs.Answers.{headOf, entry};
+ghost use Rattle.packet.specs.Answers.{headOf, headIs};
 
 // What later steps use of a header. `content` counts the header and not the padding.
 pub struct Head {
@@ -27,7 +27,7 @@ pub struct Head {
 }
 
 // A header that passed checks 2 to 5, or the number of the first that it did not.
-pub enum Entry {
+pub enum PacketHead {
     Head(Head),
     Refused(u64),
 }
@@ -119,31 +119,31 @@ pub(crate) fn known_head(d: &[u8], p: usize, bytes: usize) -> Head
 
 // The header of the packet at p, once checks 2, 3, 4 and 5 have passed, of which 4 is made unless reduced size was
 // agreed.
-pub fn head_at(d: &[u8], reduced: bool, p: usize) -> Entry
-    ensures { λ r. ⌜ r ≡ entry reduced (now (d .entry)) p ⌝ }
+pub fn head_at(d: &[u8], reduced: bool, p: usize) -> PacketHead
+    ensures { λ r. ⌜ r ≡ headIs reduced (now (d .entry)) p ⌝ }
 {
     if saturating_sub(d.len(), p) < 4 {
-        return Entry::Refused(BAD_PACKET);
+        return PacketHead::Refused(BAD_PACKET);
     }
     if d[p] / 64 != 2 {
-        return Entry::Refused(BAD_PACKET);
+        return PacketHead::Refused(BAD_PACKET);
     }
     let bytes = packet_size(d, p);
     if d.len() < p + bytes {
-        return Entry::Refused(BAD_PACKET);
+        return PacketHead::Refused(BAD_PACKET);
     }
     let padding = is_badly_padded(d, p, bytes);
     let first = is_bad_first(reduced, p, d[p + 1], d[p] % 32);
     if padding {
-        return Entry::Refused(BAD_PADDING);
+        return PacketHead::Refused(BAD_PADDING);
     }
     if first {
-        return Entry::Refused(BAD_FIRST);
+        return PacketHead::Refused(BAD_FIRST);
     }
     let h = known_head(d, p, bytes);
     let kind = h.kind;
     if is_short(kind, h.content) {
-        return Entry::Refused(SHORT_CONTENT);
+        return PacketHead::Refused(SHORT_CONTENT);
     }
-    Entry::Head(h)
+    PacketHead::Head(h)
 }

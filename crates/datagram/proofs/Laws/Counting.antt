@@ -8,14 +8,14 @@ use native.Mathlib.Omega.{arith}
 use Rattle.idms.specs.declared.Placed.{Placed}
 use Rattle.idms.specs.declared.Refusal.{Refusal}
 use Rattle.packet.specs.declared.header.Head.{Head}
-use Rattle.packet.specs.declared.header.Entry.{Entry}
+use Rattle.packet.specs.declared.header.PacketHead.{PacketHead}
 use Rattle.packet.specs.declared.block.Block.{Block}
 use Rattle.packet.specs.Checks.{passed, refused}
 use Rattle.packet.specs.Packet.{size}
 use Rattle.packet.specs.Report.{blockSize, blockCheck, blockItems}
 use Rattle.packet.specs.Contents.{contents}
-use Rattle.packet.specs.Answers.{entry, blockIs}
-use Rattle.packet.proofs.Laws.Packet.{entry-passed, entry-refused}
+use Rattle.packet.specs.Answers.{headIs, blockIs}
+use Rattle.packet.proofs.Laws.Packet.{head-is-passed, head-is-refused}
 use Rattle.packet.proofs.Laws.Blocks.{met-report, met-skipped, met-refused, items-none, items-one}
 use Rattle.datagram.specs.declared.Count.{Count}
 use Rattle.datagram.specs.Datagram.{partsCheck, packetCheck, packetItems}
@@ -89,15 +89,15 @@ module _ (reduced : Bool) (d : List ℕ) (n p : ℕ) (here : p < length d) where
       tally-refused (packetCheck reduced d) (packetItems d) (size d) (length d) (λ k. omega arith) n p number place here e
 
   pub head-refused :
-      (number : ℕ) → entry reduced d p ≡ Entry.Refused number
+      (number : ℕ) → headIs reduced d p ≡ PacketHead.Refused number
       → packetsLeft reduced d n p ≡ Count.Refused (refusal number p)
   head-refused number e =
-      left-refused number p (check-refused reduced d p number p (entry-refused reduced d p number e))
+      left-refused number p (check-refused reduced d p number p (head-is-refused reduced d p number e))
 
   -- a packet whose header has passed
-  module _ (h : Head) (passes : entry reduced d p ≡ Entry.Head h) where
+  module _ (h : Head) (passes : headIs reduced d p ≡ PacketHead.Head h) where
     check-of-parts : packetCheck reduced d p ≡ partsCheck d (contents d p)
-    check-of-parts = check-of reduced d p (entry-passed reduced d p h passes .0)
+    check-of-parts = check-of reduced d p (head-is-passed reduced d p h passes .0)
 
     pub parts-refused :
         (r : Refusal) → partsCount d p ≡ Count.Refused r
@@ -112,7 +112,7 @@ module _ (reduced : Bool) (d : List ℕ) (n p : ℕ) (here : p < length d) where
         let m : _ = count-items (partsCheck d (contents d p)) (length (packetItems d p)) items e in
         let check : packetCheck reduced d p ≡ passed = check-of-parts ∙ m .0 in
         let room : _ = packets-roomy reduced d p here check in
-        let bytes : h .bytes ≡ size d p = ap (λ (x : Head). x .bytes) (entry-passed reduced d p h passes .1) in
+        let bytes : h .bytes ≡ size d p = ap (λ (x : Head). x .bytes) (head-is-passed reduced d p h passes .1) in
         record {
           inside = omega (arith, room .0, bytes);
           whole = omega (arith, bytes);

@@ -10,7 +10,7 @@ use Rattle.packet.specs.Packet.{size}
 use Rattle.datagram.proofs.Laws.Counting.{packetsLeft, head-refused, parts-refused, packet-counted}
 use Rattle.datagram.proofs.Laws.Walk.{tally-start, tally-end}
 use Rattle.packet.proofs.Laws.Contents.{known-readable}
-use Rattle.packet.proofs.Laws.Packet.{head-passed, entry-passed}
+use Rattle.packet.proofs.Laws.Packet.{head-passed, head-is-passed}
 use Rattle.datagram.proofs.count_packets.Statement.{statement}
 use Rattle.datagram.proofs.count_packets.Tie as tie
 
@@ -52,7 +52,7 @@ count-content-requires c κs =
     let d = args .d .now in
     let h = c .before in
     let k : _ =
-    entry-passed reduced d (b .loop .p) (h .h .given .0 .0) (sym (h .before .before .head-at .ensures) ∙ h .h .given .1) in
+    head-is-passed reduced d (b .loop .p) (h .h .given .0 .0) (sym (h .before .before .head-at .ensures) ∙ h .h .given .1) in
     (k .1, known-readable d (b .loop .p) (head-passed reduced d (b .loop .p) (k .0)))
 
 enum-known-r : tie.Need-enum-known-r Inv-loop μ-loop

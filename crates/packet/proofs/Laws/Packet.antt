@@ -9,11 +9,11 @@ use native.Mathlib.Omega.{arith}
 use borrow.Author.Tests.{eq-eqb, ne-eqb, lt-ltb, le-ltb, ltb-false, eqb-true, eqb-false, not-false}
 use Rattle.refusals.specs.Refusals.{badPacket, badPadding, badFirst, shortContent}
 use Rattle.packet.specs.declared.header.Head.{Head}
-use Rattle.packet.specs.declared.header.Entry.{Entry}
+use Rattle.packet.specs.declared.header.PacketHead.{PacketHead}
 use Rattle.packet.specs.Checks.{Check, passed, refused}
 use Rattle.packet.specs.Packet.{version, padded, kind, size, padding, paddingIsBad}
 use Rattle.packet.specs.Packet.{content, contentIsShort, firstIsBad, headCheck}
-use Rattle.packet.specs.Answers.{headOf, headUnless, entry}
+use Rattle.packet.specs.Answers.{headOf, headUnless, headIs}
 use Rattle.packet.proofs.Laws.Checks.{check-passes, Refuses, passed-refuses, refuseIf-refuses}
 
 -- ---- content
@@ -93,66 +93,66 @@ head-refuses P reduced d p two three four five =
     (refuseIf-refuses P (firstIsBad reduced p (kind d p)) _ p _ four
     (refuseIf-refuses P (contentIsShort (kind d p) (content d p)) _ p _ five (passed-refuses P)))))
 
--- ---- entry, by the first check that applies
+-- ---- headIs, by the first check that applies
 
 module _ (reduced : Bool) (d : List ℕ) (p : ℕ) where
-  pub entry-version : (version d p ≡ 2 → ⊥) → entry reduced d p ≡ Entry.Refused badPacket
-  unfolding entry headCheck
-  entry-version v = rw (ne-eqb (version d p) 2 v, entry, headCheck)
+  pub head-is-version : (version d p ≡ 2 → ⊥) → headIs reduced d p ≡ PacketHead.Refused badPacket
+  unfolding headIs headCheck
+  head-is-version v = rw (ne-eqb (version d p) 2 v, headIs, headCheck)
 
   module _ (v : version d p ≡ 2) where
-    pub entry-long : length d < p + size d p → entry reduced d p ≡ Entry.Refused badPacket
-    unfolding entry headCheck
-    entry-long l = rw (eq-eqb (version d p) 2 v, lt-ltb (length d) (p + size d p) l)
+    pub head-is-long : length d < p + size d p → headIs reduced d p ≡ PacketHead.Refused badPacket
+    unfolding headIs headCheck
+    head-is-long l = rw (eq-eqb (version d p) 2 v, lt-ltb (length d) (p + size d p) l)
 
     module _ (l : p + size d p ≤ length d) where
-      pub entry-padding : paddingIsBad d p ≡ true → entry reduced d p ≡ Entry.Refused badPadding
-      unfolding entry headCheck
-      entry-padding b = rw (eq-eqb (version d p) 2 v, le-ltb (length d) (p + size d p) l, b)
+      pub head-is-padding : paddingIsBad d p ≡ true → headIs reduced d p ≡ PacketHead.Refused badPadding
+      unfolding headIs headCheck
+      head-is-padding b = rw (eq-eqb (version d p) 2 v, le-ltb (length d) (p + size d p) l, b)
 
       module _ (b : paddingIsBad d p ≡ false) where
-        pub entry-first : firstIsBad reduced p (kind d p) ≡ true → entry reduced d p ≡ Entry.Refused badFirst
-        unfolding entry headCheck
-        entry-first f = rw (eq-eqb (version d p) 2 v, le-ltb (length d) (p + size d p) l, b, f)
+        pub head-is-first : firstIsBad reduced p (kind d p) ≡ true → headIs reduced d p ≡ PacketHead.Refused badFirst
+        unfolding headIs headCheck
+        head-is-first f = rw (eq-eqb (version d p) 2 v, le-ltb (length d) (p + size d p) l, b, f)
 
         module _ (f : firstIsBad reduced p (kind d p) ≡ false) where
-          pub entry-short :
-              contentIsShort (kind d p) (content d p) ≡ true → entry reduced d p ≡ Entry.Refused shortContent
-          unfolding entry headCheck
-          entry-short s = rw (eq-eqb (version d p) 2 v, le-ltb (length d) (p + size d p) l, b, f, s)
+          pub head-is-short :
+              contentIsShort (kind d p) (content d p) ≡ true → headIs reduced d p ≡ PacketHead.Refused shortContent
+          unfolding headIs headCheck
+          head-is-short s = rw (eq-eqb (version d p) 2 v, le-ltb (length d) (p + size d p) l, b, f, s)
 
-          pub entry-head : contentIsShort (kind d p) (content d p) ≡ false → entry reduced d p ≡ Entry.Head (headOf d p)
-          unfolding entry headCheck
-          entry-head s = rw (eq-eqb (version d p) 2 v, le-ltb (length d) (p + size d p) l, b, f, s)
+          pub head-is-head : contentIsShort (kind d p) (content d p) ≡ false → headIs reduced d p ≡ PacketHead.Head (headOf d p)
+          unfolding headIs headCheck
+          head-is-head s = rw (eq-eqb (version d p) 2 v, le-ltb (length d) (p + size d p) l, b, f, s)
 
   -- a byte past the end reads as 0, and no packet is shorter than a word
-  pub entry-outside : length d - p < 4 → entry reduced d p ≡ Entry.Refused badPacket
-  entry-outside h = go (eqb (version d p) 2) refl
+  pub head-is-outside : length d - p < 4 → headIs reduced d p ≡ PacketHead.Refused badPacket
+  head-is-outside h = go (eqb (version d p) 2) refl
     where
-      go : (t : Bool) → eqb (version d p) 2 ≡ t → entry reduced d p ≡ Entry.Refused badPacket
-      go true e = entry-long (eqb-true (version d p) 2 e) (omega arith)
-      go false e = entry-version (eqb-false (version d p) 2 e)
+      go : (t : Bool) → eqb (version d p) 2 ≡ t → headIs reduced d p ≡ PacketHead.Refused badPacket
+      go true e = head-is-long (eqb-true (version d p) 2 e) (omega arith)
+      go false e = head-is-version (eqb-false (version d p) 2 e)
 
--- ---- entry, the other way: what an answer says of the checks
+-- ---- headIs, the other way: what an answer says of the checks
 
-headUnless-head : (k : Check) (x h : Head) → headUnless k x ≡ Entry.Head h → (k ≡ passed) × (h ≡ x)
+headUnless-head : (k : Check) (x h : Head) → headUnless k x ≡ PacketHead.Head h → (k ≡ passed) × (h ≡ x)
 headUnless-head passed x h e = (refl, cc)
 headUnless-head (refused number place) x h e = let z : _≡_ {A = ℕ} 0 1 = cc in absurd (omega arith)
 
-headUnless-refused : (k : Check) (x : Head) (n : ℕ) → headUnless k x ≡ Entry.Refused n → (q : ℕ) × (k ≡ refused n q)
+headUnless-refused : (k : Check) (x : Head) (n : ℕ) → headUnless k x ≡ PacketHead.Refused n → (q : ℕ) × (k ≡ refused n q)
 headUnless-refused passed x n e = let z : _≡_ {A = ℕ} 0 1 = cc in absurd (omega arith)
 headUnless-refused (refused number place) x n e = (place, cc)
 
-pub entry-passed :
-    (reduced : Bool) (d : List ℕ) (p : ℕ) (h : Head) → entry reduced d p ≡ Entry.Head h
+pub head-is-passed :
+    (reduced : Bool) (d : List ℕ) (p : ℕ) (h : Head) → headIs reduced d p ≡ PacketHead.Head h
     → (headCheck reduced d p ≡ passed) × (h ≡ headOf d p)
-unfolding entry
-entry-passed reduced d p h e = headUnless-head (headCheck reduced d p) (headOf d p) h e
+unfolding headIs
+head-is-passed reduced d p h e = headUnless-head (headCheck reduced d p) (headOf d p) h e
 
-pub entry-refused :
-    (reduced : Bool) (d : List ℕ) (p n : ℕ) → entry reduced d p ≡ Entry.Refused n → headCheck reduced d p ≡ refused n p
-unfolding entry
-entry-refused reduced d p n e =
+pub head-is-refused :
+    (reduced : Bool) (d : List ℕ) (p n : ℕ) → headIs reduced d p ≡ PacketHead.Refused n → headCheck reduced d p ≡ refused n p
+unfolding headIs
+head-is-refused reduced d p n e =
     let r : _ = headUnless-refused (headCheck reduced d p) (headOf d p) n e in
     r .1
     ∙ ap (refused n)

@@ -3,9 +3,9 @@ use mathlib.Core.Path.{sym, ap, _∙_}
 use native.Mathlib.Omega.{arith}
 use borrow.Author.Needs.{needs}
 use Rattle.packet.specs.Packet.{contentIsShort}
-use Rattle.packet.specs.declared.header.Entry.{Entry}
+use Rattle.packet.specs.declared.header.PacketHead.{PacketHead}
 use Rattle.packet.specs.declared.header.Head.{Head}
-use Rattle.packet.proofs.Laws.Packet.{entry-outside, entry-version, entry-long, entry-padding, entry-first, entry-short, entry-head}
+use Rattle.packet.proofs.Laws.Packet.{head-is-outside, head-is-version, head-is-long, head-is-padding, head-is-first, head-is-short, head-is-head}
 use Rattle.packet.proofs.header.head_at.Statement.{statement}
 use Rattle.packet.proofs.header.head_at.Tie as tie
 
@@ -15,7 +15,7 @@ saturating-sub-requires c κs = search needs
 returns : tie.Need-returns
 returns c =
     let a = c .before .before .before .args in
-    sym (entry-outside (a .reduced) (a .d .now) (a .p) (omega (arith, c .before .saturating-sub .ensures)))
+    sym (head-is-outside (a .reduced) (a .d .now) (a .p) (omega (arith, c .before .saturating-sub .ensures)))
 
 shared-slice-read-if2 : tie.Need-shared-slice-read-if2
 shared-slice-read-if2 c = search needs
@@ -23,7 +23,7 @@ shared-slice-read-if2 c = search needs
 returns-2 : tie.Need-returns-2
 returns-2 c =
     let a = c .before .before .before .before .before .args in
-    sym (entry-version (a .reduced) (a .d .now) (a .p) (c .if2 .taken))
+    sym (head-is-version (a .reduced) (a .d .now) (a .p) (c .if2 .taken))
 
 packet-size-requires : tie.Need-packet-size-requires
 packet-size-requires c κs = search needs
@@ -35,7 +35,7 @@ returns-3 : tie.Need-returns-3
 returns-3 c =
     let s = c .before in
     let a = s .before .before .before .before .before .before .args in
-    sym (entry-long (a .reduced) (a .d .now) (a .p) (s .before .if2 .left) (omega (arith, s .packet-size .ensures .0)))
+    sym (head-is-long (a .reduced) (a .d .now) (a .p) (s .before .if2 .left) (omega (arith, s .packet-size .ensures .0)))
 
 is-badly-padded-requires : tie.Need-is-badly-padded-requires
 is-badly-padded-requires c κs = search needs
@@ -59,7 +59,7 @@ returns-4 c =
     let s = b .before .before in
     let v = s .before in
     sym
-    (entry-padding (a .reduced) (a .d .now) (a .p) (v .if2 .left) (omega (arith, s .packet-size .ensures .0))
+    (head-is-padding (a .reduced) (a .d .now) (a .p) (v .if2 .left) (omega (arith, s .packet-size .ensures .0))
     (sym (b .is-badly-padded .ensures) ∙ c .if4 .taken))
 
 returns-5 : tie.Need-returns-5
@@ -69,7 +69,7 @@ returns-5 c =
     let s = b .before .before in
     let v = s .before in
     sym
-    (entry-first (a .reduced) (a .d .now) (a .p) (v .if2 .left) (omega (arith, s .packet-size .ensures .0))
+    (head-is-first (a .reduced) (a .d .now) (a .p) (v .if2 .left) (omega (arith, s .packet-size .ensures .0))
     (sym (b .is-badly-padded .ensures) ∙ c .before .if4 .left)
     (sym (c .before .before .is-bad-first .ensures) ∙ c .if5 .taken))
 
@@ -87,7 +87,7 @@ returns-6 c =
     let v = s .before in
     let f = c .before .before .before in
     sym
-    (entry-short (a .reduced) (a .d .now) (a .p) (v .if2 .left) (omega (arith, s .packet-size .ensures .0))
+    (head-is-short (a .reduced) (a .d .now) (a .p) (v .if2 .left) (omega (arith, s .packet-size .ensures .0))
     (sym (b .is-badly-padded .ensures) ∙ f .before .if4 .left)
     (sym (f .before .before .is-bad-first .ensures) ∙ f .if5 .left)
     (sym (ap (λ (x : Head). contentIsShort (x .kind) (x .content)) (c .before .before .known-head .ensures))
@@ -102,9 +102,9 @@ returns-7 c =
     let v = s .before in
     let f = c .before .before .before in
     let h = c .before .before in
-    ap Entry.Head (h .known-head .ensures)
+    ap PacketHead.Head (h .known-head .ensures)
     ∙ sym
-    (entry-head (a .reduced) (a .d .now) (a .p) (v .if2 .left) (omega (arith, s .packet-size .ensures .0))
+    (head-is-head (a .reduced) (a .d .now) (a .p) (v .if2 .left) (omega (arith, s .packet-size .ensures .0))
     (sym (b .is-badly-padded .ensures) ∙ f .before .if4 .left)
     (sym (f .before .before .is-bad-first .ensures) ∙ f .if5 .left)
     (sym (ap (λ (x : Head). contentIsShort (x .kind) (x .content)) (h .known-head .ensures))
