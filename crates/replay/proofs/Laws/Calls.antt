@@ -74,11 +74,11 @@ rows-append :
 unfolding entryRows callsOfEntries tableFrom
 rows-append t [] more = refl
 rows-append t (e ∷ es) more =
-    rw (
-      rows-append (tableFrom t (entryCalls e)) es more,
-      table-append t (entryCalls e) (callsOfEntries es),
-      append-assoc (entryRow t e),
-    ) refl
+    let next = tableFrom t (entryCalls e) in
+    ap (λ (rows : List ℕ). entryRow t e ++ rows) (rows-append next es more)
+    ∙ sym (append-assoc (entryRow t e) (entryRows next es) (entryRows (tableFrom next (callsOfEntries es)) more))
+    ∙ ap (λ (u : Table). (entryRow t e ++ entryRows next es) ++ entryRows u more)
+    (sym (table-append t (entryCalls e) (callsOfEntries es)))
 
 -- ---- where the rows stand
 

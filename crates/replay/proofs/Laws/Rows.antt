@@ -1,9 +1,11 @@
 -- Laws of an entry's row.
-use Prim.Native.Nat.{ℕ, _+_, _≤_}
+use Prim.Native.Nat.{ℕ, suc, _+_, _≤_, _<_}
 use mathlib.Core.Path.{_≡_, refl, sym, ap, _∙_}
 use mathlib.Core.Bool.{Bool, true, false, cond}
 use mathlib.Core.List.{List, [], _∷_}
 use lib.Dec.{eqb}
+use lib.ListN.{length, set, length-set}
+use lib.Seq.{sets}
 use native.Mathlib.Omega.{arith}
 use borrow.Author.Tests.{eqb-true, eqb-false, ne-eqb, eq-eqb}
 use Rattle.replay.specs.declared.steps.Row.{Row}
@@ -82,3 +84,20 @@ accepted-after row number = go (eqb number 0) refl
     go : (b : Bool) → eqb number 0 ≡ b → rowAfter row number .accepted ≤ row .accepted + 1
     go true e = rw e (omega arith)
     go false e = rw e (omega arith)
+
+-- ---- its cells, stored one behind the other
+
+pub second-inside : (l : List ℕ) (at a : ℕ) → at + 3 ≤ length l → at + 1 < length (set l at a)
+second-inside l at a room = omega (arith, room, length-set l at a)
+
+pub third-inside : (l : List ℕ) (at a b : ℕ) → at + 3 ≤ length l → at + 2 < length (set (set l at a) (at + 1) b)
+third-inside l at a b room = omega (arith, room, length-set l at a, length-set (set l at a) (at + 1) b)
+
+pub stored-cells :
+    (l : List ℕ) (at a b c : ℕ)
+    → set (set (set l at a) (at + 1) b) (at + 2) c ≡ sets l at (a ∷ b ∷ c ∷ [])
+stored-cells l at a b c =
+    let one : at + 1 ≡ suc at = omega arith in
+    let two : at + 2 ≡ suc (suc at) = omega arith in
+    ap (λ (k : ℕ). set (set (set l at a) k b) (at + 2) c) one
+    ∙ ap (λ (k : ℕ). set (set (set l at a) (suc at) b) k c) two
