@@ -11,6 +11,9 @@
 #define MOST_WORDS 64
 #define MOST_CALLS 512
 
+/* Numbers for the rows of any recording. */
+#define MOST_ROWS (PRUNEPOCKET_ENTRY_ROW * PRUNEPOCKET_ENTRY_LIMIT)
+
 /* Reports of a burst: more than it may have, for those that are refused. */
 #define LONGEST_BURST 1000
 
@@ -31,6 +34,8 @@ static struct {
     record_t record;       /* the last report */
     uint8_t *datagram;
     size_t length;
+    uint8_t *recording;
+    size_t recorded; /* bytes of it */
     target_t target;
 } bench;
 
@@ -62,6 +67,11 @@ static void not_understood(const char *word)
 
 /* ---- Words ----------------------------------------------------------------------------------- */
 
+static int is(const char *word, const char *expected)
+{
+    return word != NULL && strcmp(word, expected) == 0;
+}
+
 /* Decimal, or hex behind 0x, up to an end and to the most that it may be. */
 static uint64_t number_before(const char *word, char end, uint64_t most)
 {
@@ -91,6 +101,12 @@ static uint64_t time_of(const char *word)
     if (plus == NULL)
         return SECONDS(number(word));
     return SECONDS(number_before(word, '+', UINT32_MAX)) + number(plus + 1);
+}
+
+/* A target's presented time, or that there is none. */
+static uint64_t presented_of(const char *word)
+{
+    return is(word, "-") ? 0 : time_of(word);
 }
 
 static void put_hex(const char *digits, size_t count, uint8_t *bytes)
@@ -158,11 +174,6 @@ static origin_t origin_of(const char *word)
     }
     origin.port = (uint16_t)number_before(colon + 1, '\0', UINT16_MAX);
     return origin;
-}
-
-static int is(const char *word, const char *expected)
-{
-    return word != NULL && strcmp(word, expected) == 0;
 }
 
 /* Source, origin, received, RTP and presented of a report. */
@@ -413,6 +424,38 @@ static void gather_step(size_t first)
         call_burst();
 }
 
+/* ---- Recordings ------------------------------------------------------------------------------ */
+
+/*
+ * Some bytes of the recording, at its front, and others behind them are the recording from then on.
+ * It stands at its exact length on the heap, for valgrind.
+ */
+static void make_recording(size_t kept, const uint8_t *behind, size_t count)
+{
+    uint8_t *recording = allocate(kept + count);
+
+    memcpy(recording, bench.recording, kept);
+    memcpy(recording + kept, behind, count);
+    free(bench.recording);
+    bench.recording = recording;
+    bench.recorded = kept + count;
+}
+
+/* The step's words stand behind the bytes that are kept. */
+static void append_words(size_t kept)
+{
+    uint8_t bytes[4 * MOST_WORDS];
+
+    due_words(0);
+    make_recording(kept, bytes, bytes_of(asked, bytes));
+}
+
+static struct prunepocket_replayed replay(uint64_t rows[MOST_ROWS])
+{
+    memset(rows, 0, MOST_ROWS * sizeof *rows);
+    return prunepocket_replay(bench.recording, bench.recorded, rows, MOST_ROWS);
+}
+
 /* ---- Steps ----------------------------------------------------------------------------------- */
 
 static void step_table(void)
@@ -463,6 +506,24 @@ static void step_datagram(void)
     free(bench.datagram);
     bench.datagram = allocate(bench.length);
     memcpy(bench.datagram, bytes, bench.length);
+}
+
+static void step_recording(void)
+{
+    append_words(0);
+}
+
+static void step_append(void)
+{
+    append_words(bench.recorded);
+}
+
+static void step_cut(void)
+{
+    size_t left_out = (size_t)number_before(asked[0], '\0', bench.recorded);
+
+    due_words(0);
+    make_recording(bench.recorded - left_out, bench.recording, 0);
 }
 
 static void step_report(void)
@@ -606,7 +667,7 @@ static void step_choose(void)
                      .media = bench.table.media,
                      .received = time_of(due[1]),
                      .rtp = number(due[2]),
-                     .presented = is(due[3], "-") ? 0 : time_of(due[3]),
+                     .presented = presented_of(due[3]),
                      .counted = number(due[4]),
                  });
 }
@@ -750,6 +811,42 @@ static void step_write_line(void)
     check_true("the same bytes", memcmp(buffer, expected, sizeof buffer) == 0);
 }
 
+static void step_replay(void)
+{
+    uint64_t rows[MOST_ROWS];
+    struct prunepocket_replayed replayed = replay(rows);
+    int refused = is(due[0], "refused");
+
+    due_words(refused ? 2 : 1);
+    check_equal("number", replayed.number, refused ? number(due[1]) : 0);
+    check_equal("entries", replayed.entries, refused ? 0 : number(due[0]));
+}
+
+static void step_replay_entry(void)
+{
+    uint64_t rows[MOST_ROWS];
+    uint64_t index = number_before(asked[0], '\0', PRUNEPOCKET_ENTRY_LIMIT - 1);
+    const uint64_t *row = rows + PRUNEPOCKET_ENTRY_ROW * index;
+
+    due_words(PRUNEPOCKET_ENTRY_ROW);
+    replay(rows);
+    check_equal("items", row[PRUNEPOCKET_ENTRY_ITEMS], number(due[0]));
+    check_equal("accepted", row[PRUNEPOCKET_ENTRY_ACCEPTED], number(due[1]));
+    check_equal("first refusal", row[PRUNEPOCKET_ENTRY_NUMBER], number(due[2]));
+}
+
+static void step_replay_target(void)
+{
+    uint64_t rows[MOST_ROWS];
+    struct prunepocket_replayed replayed = replay(rows);
+    int is_none = is(due[0], "none");
+
+    due_words(is_none ? 1 : 2);
+    check_equal("choice", replayed.choice, is_none ? PRUNEPOCKET_NONE_COUNTED : 0);
+    check_equal("source", replayed.target.source, is_none ? 0 : number(due[0]));
+    check_equal("presented", replayed.target.presented, is_none ? 0 : presented_of(due[1]));
+}
+
 /* ---- The text -------------------------------------------------------------------------------- */
 
 #define ANY SIZE_MAX
@@ -773,6 +870,9 @@ static const struct step {
     {"burst", 2, step_burst},
     {"sweep", 0, step_sweep},
     {"datagram", ANY, step_datagram},
+    {"recording", ANY, step_recording},
+    {"append", ANY, step_append},
+    {"cut", 1, step_cut},
     {"take", 1, step_take},
     {"items", 0, step_items},
     {"item", 1, step_item},
@@ -789,6 +889,9 @@ static const struct step {
     {"write settings", 1, step_write_settings},
     {"line", 1, step_line},
     {"write line", 1, step_write_line},
+    {"replay entry", 1, step_replay_entry}, /* before the shorter name */
+    {"replay target", 0, step_replay_target},
+    {"replay", 0, step_replay},
 };
 
 static unsigned long steps_run;
@@ -900,6 +1003,7 @@ int main(void)
     start_checks(TEXT);
     name = copy;
     bench.datagram = allocate(0);
+    bench.recording = allocate(0);
     if (stream == NULL) {
         perror(TEXT);
         return 1;
@@ -917,6 +1021,7 @@ int main(void)
     }
     fclose(stream);
     free(bench.datagram);
+    free(bench.recording);
     if (is_gathering())
         not_understood("a burst that lacks its reports");
     check_true("there are steps", lines > 0);

@@ -9,7 +9,7 @@ use crate::members::{Call, Choice, Opening, Origin, Reading, Record, ReportField
 use crate::places::PLACES;
 use crate::sides::Side;
 use crate::target::AtReading;
-use prunepocket_sys::{Refusal, SettingsMessage};
+use prunepocket_sys::{Refusal, Replayed, SettingsMessage, ENTRY_LIMIT, ENTRY_ROW};
 
 const OPENING: Opening = Opening {
     group: 42,
@@ -68,6 +68,7 @@ struct Bench<S> {
     datagram: Vec<u8>,
     /// Whether reduced size was agreed with those who send the datagrams.
     reduced_size: bool,
+    recording: Vec<u8>,
     last_report: Option<Record>,
     target: Option<Target>,
     /// A burst that lacks reports.
@@ -87,6 +88,7 @@ impl<S: Side> Bench<S> {
             stream: (OPENING.group, OPENING.media),
             datagram: Vec::new(),
             reduced_size: false,
+            recording: Vec::new(),
             last_report: None,
             target: None,
             burst: None,
@@ -195,8 +197,18 @@ impl<S: Side> Bench<S> {
             ["reduced", "size", "not", "agreed"] => self.reduced_size = false,
             ["stream", group, media] => self.stream = (number(group)?, number(media)?),
             ["datagram", words @ ..] => self.datagram = bytes(words)?,
+            ["recording", words @ ..] => self.recording = bytes(words)?,
+            ["append", words @ ..] => self.recording.extend(bytes(words)?),
+            ["cut", count] => self.cut(number(count)?)?,
             _ => return Err(String::from("not a step")),
         }
+        Ok(())
+    }
+
+    /// So many bytes at the recording's end are left out.
+    fn cut(&mut self, count: usize) -> Verdict {
+        let left = self.recording.len().checked_sub(count);
+        self.recording.truncate(left.ok_or("not so many bytes")?);
         Ok(())
     }
 
@@ -248,6 +260,7 @@ impl<S: Side> Bench<S> {
             (["members" | "place" | "tally" | "unchanged", ..], due) => {
                 self.look_at_members(asked, due)
             }
+            (["replay", asked @ ..], due) => self.look_at_replay(asked, due),
             _ => self.look_at_target(asked, due),
         }
     }
@@ -289,6 +302,21 @@ impl<S: Side> Bench<S> {
                 let settings = settings_message(number(sender)?, &self.target()?);
                 is(S::write(&settings), Ok(bytes(words)?))
             }
+            _ => Err(String::from("not a step")),
+        }
+    }
+
+    /// What came of the recording, an entry of it, or its target.
+    fn look_at_replay(&self, asked: &[&str], due: &[&str]) -> Verdict {
+        let mut rows = [0; ENTRY_ROW * ENTRY_LIMIT];
+        let replayed = S::replay(&self.recording, &mut rows);
+        match (asked, due) {
+            ([], due) => is(entries(&replayed), entry_count(due)?),
+            (["entry", index], due) => {
+                let row = rows.chunks(ENTRY_ROW).nth(number(index)?);
+                is(row.ok_or("not an entry")?.to_vec(), row_of(due)?)
+            }
+            (["target"], due) => is(replayed_target(&replayed), presented_target(due)?),
             _ => Err(String::from("not a step")),
         }
     }
@@ -433,10 +461,7 @@ impl<S: Side> Bench<S> {
                 media: self.opening.media,
                 received: time(received)?,
                 rtp: number(rtp)?,
-                presented: match *presented {
-                    "-" => 0,
-                    presented => time(presented)?,
-                },
+                presented: presented_time(presented)?,
                 counted: number(counted)?,
             })),
             _ => Err(String::from("not a choice")),
@@ -462,7 +487,9 @@ fn write_line<S: Side>(step: &str) -> Verdict {
 }
 
 fn is_setting(word: &str) -> bool {
-    ["table", "reading", "reduced", "stream", "datagram"].contains(&word)
+    let of_table = ["table", "reading", "reduced", "stream", "datagram"];
+    let of_recording = ["recording", "append", "cut"];
+    of_table.contains(&word) || of_recording.contains(&word)
 }
 
 fn is_call(word: &str) -> bool {
@@ -522,6 +549,14 @@ fn time(word: &str) -> Result<u64, String> {
     let (seconds, units) = word.split_once('+').unwrap_or((word, "0"));
     let (seconds, units): (u32, u32) = (number(seconds)?, number(units)?);
     Ok(u64::from(seconds) << 32 | u64::from(units))
+}
+
+/// A target's presented time: a time, or 0 where it is chosen by arrival.
+fn presented_time(word: &str) -> Result<u64, String> {
+    match word {
+        "-" => Ok(0),
+        word => time(word),
+    }
 }
 
 /// Words of eight hex digits.
@@ -621,6 +656,41 @@ fn item(words: &[&str]) -> Result<Result<(u64, u64), Refusal>, String> {
         ["settings", source] => Ok(Ok((2, number(source)?))),
         ["farewell", source] => Ok(Ok((3, number(source)?))),
         words => Ok(Err(refusal(words)?)),
+    }
+}
+
+/// How many entries a recording has, or the number of its refusal.
+fn entries(replayed: &Replayed) -> Result<u64, u64> {
+    match replayed.number {
+        0 => Ok(replayed.entries),
+        number => Err(number),
+    }
+}
+
+fn entry_count(words: &[&str]) -> Result<Result<u64, u64>, String> {
+    match words {
+        ["refused", refusal] => Ok(Err(number(refusal)?)),
+        [count] => Ok(Ok(number(count)?)),
+        _ => Err(format!("not an answer: {words:?}")),
+    }
+}
+
+/// The row of an entry.
+fn row_of(words: &[&str]) -> Result<Vec<u64>, String> {
+    words.iter().map(|word| number(word)).collect()
+}
+
+/// Source and presented time of a recording's target, if it has one.
+fn replayed_target(replayed: &Replayed) -> Option<(u32, u64)> {
+    let target = replayed.target;
+    (replayed.choice == 0).then_some((target.source, target.presented))
+}
+
+fn presented_target(words: &[&str]) -> Result<Option<(u32, u64)>, String> {
+    match words {
+        ["none"] => Ok(None),
+        [source, presented] => Ok(Some((number(source)?, presented_time(presented)?))),
+        _ => Err(format!("not an answer: {words:?}")),
     }
 }
 
@@ -825,6 +895,60 @@ mod tests {
         assert_eq!(steps(&[&read, &written, refused].concat()), Ok(4));
     }
 
+    /// A head for the papers' table with one entry, which has no bytes.
+    const RECORDING: &str = concat!(
+        "  recording 00000001 0000002A 00000007 00015F90\n",
+        "  append 000003E8 00000000 00895440 00000000 00000000 0000FFFF C0000201 13920000\n",
+    );
+
+    #[test]
+    fn a_recording_is_replayed() {
+        let answers = "  replay = 1\n  replay entry 0 = 0 0 1\n  replay target = none\n";
+        assert_eq!(steps(&format!("{RECORDING}{answers}")), Ok(5));
+        for (answer, other) in [
+            ("replay = 1", "replay = 0"),
+            ("replay = 1", "replay = refused 25"),
+            ("0 = 0 0 1", "0 = 0 0 0"),
+            ("0 = 0 0 1", "0 = 1 0 1"),
+            ("0 = 0 0 1", "0 = 0 1 1"),
+            ("entry 0", "entry 1"),
+            ("target = none", "target = 0 -"),
+        ] {
+            let text = format!("{RECORDING}{}", answers.replace(answer, other));
+            assert!(fails(&text), "{other}");
+        }
+    }
+
+    #[test]
+    fn a_recording_is_put_together_of_words() {
+        let cut = format!("{RECORDING}  cut 1\n  replay = refused 25\n");
+        assert_eq!(steps(&cut), Ok(4));
+        let head = "  recording 00000000 0000002A 00000007 00015F90\n  replay = 0\n";
+        assert_eq!(
+            steps(&format!("{cut}{head}  replay target = none\n")),
+            Ok(7)
+        );
+        let all = format!("{RECORDING}  cut 48\n  replay = refused 25\n");
+        assert_eq!(steps(&all), Ok(4));
+        assert!(fails(&format!("{RECORDING}  cut 49\n")));
+    }
+
+    #[test]
+    fn the_target_of_a_recording_is_compared() {
+        let entry = "000003E8 00000000 00895440 00000000 00000000 0000FFFF C0000201 139C0030";
+        let report = "80CF0009 00000014 0C110007 42000000 0000002A 00000007 000003E6 00000000";
+        let rest = "00869520 03E6C000";
+        let head = "  recording 00000001 0000002A 00000007 00015F90\n";
+        let bodies = format!("  append {entry} 80C90001 00000014 {report} {rest}\n");
+        let answers = "  replay entry 0 = 1 1 0\n  replay target = 20 998+0xC0000000\n";
+        let text = format!("{head}{bodies}{answers}");
+        assert_eq!(steps(&text), Ok(4));
+        for other in ["21 998+0xC0000000", "20 998", "20 -", "none"] {
+            let text = text.replace("20 998+0xC0000000", other);
+            assert!(fails(&text), "{other}");
+        }
+    }
+
     const NOT_UNDERSTOOD: &[&str] = &[
         "  sweeps = 0",
         "  sweep",
@@ -867,6 +991,25 @@ mod tests {
         "  write line 4294967296 = refused 22",
         "  write line 42 = a=rtcp-idms:sync-group=42\\r\\n",
         "  write line 42 = \"a=rtcp-idms:sync-group=42\\r\\n\" ",
+        "  recording 0000002",
+        "  recording 00000000 = 0",
+        "  append 0000002A0",
+        "  append 0000002A = 0",
+        "  cut",
+        "  cut 1",
+        "  cut 0 = 0",
+        "  replay",
+        "  replay = refused",
+        "  replay = none",
+        "  replay 0 = refused 25",
+        "  replay entry = 0 0 0",
+        "  replay entry 0",
+        "  replay entry 0 = 0 0",
+        "  replay entry 0 = 0 0 0 0",
+        "  replay entry 256 = 0 0 0",
+        "  replay target",
+        "  replay target = refused 20",
+        "  replay target 0 = none",
     ];
 
     #[test]

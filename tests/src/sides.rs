@@ -7,8 +7,9 @@ use crate::decoder::decode;
 use crate::encoder::Message;
 use crate::intake::{Answer, Intake};
 use crate::members::{Call, Choice, Member, Opening, Origin, Reading, Record};
+use crate::replay::replay;
 use crate::sync_group::{self, LONGEST_LINE};
-use prunepocket_sys::{count_items, item_field, Refusal, Table};
+use prunepocket_sys::{count_items, item_field, Refusal, Replayed, Table};
 use prunepocket_sys::{read_sync_group, write_sync_group};
 
 /// More calls than a datagram can have.
@@ -39,6 +40,8 @@ pub trait Side: Clone {
     fn read_line(line: &[u8]) -> Result<u32, Refusal>;
     /// The line of a group number.
     fn write_line(group: u32) -> Result<Vec<u8>, Refusal>;
+    /// A recording through a table of its own; what each entry gave goes to the rows.
+    fn replay(recording: &[u8], rows: &mut [u64]) -> Replayed;
 }
 
 impl Answer {
@@ -131,6 +134,10 @@ impl Side for Table {
         buffer.truncate(written as usize);
         Ok(buffer)
     }
+
+    fn replay(recording: &[u8], rows: &mut [u64]) -> Replayed {
+        prunepocket_sys::replay(recording, rows)
+    }
 }
 
 impl Side for Intake {
@@ -203,5 +210,9 @@ impl Side for Intake {
         sync_group::write(group, &mut buffer, &mut written)?;
         buffer.truncate(written as usize);
         Ok(buffer)
+    }
+
+    fn replay(recording: &[u8], rows: &mut [u64]) -> Replayed {
+        replay(recording, rows)
     }
 }

@@ -11,82 +11,98 @@ pub(crate) const STREAM: usize = 2;
 
 pub(crate) const DATAGRAM: usize = 3;
 
-pub(crate) const REDUCED_SIZE: usize = 4;
+pub(crate) const RECORDING: usize = 4;
 
-pub(crate) const NO_REDUCED_SIZE: usize = 5;
+pub(crate) const APPEND: usize = 5;
 
-pub(crate) const OPEN: usize = 6;
+pub(crate) const CUT: usize = 6;
 
-pub(crate) const REPORT: usize = 7;
+pub(crate) const REDUCED_SIZE: usize = 7;
 
-pub(crate) const FAREWELL: usize = 8;
+pub(crate) const NO_REDUCED_SIZE: usize = 8;
 
-pub(crate) const SEND_REPORT: usize = 9;
+pub(crate) const OPEN: usize = 9;
 
-pub(crate) const SEND_FAREWELL: usize = 10;
+pub(crate) const REPORT: usize = 10;
 
-pub(crate) const FILL: usize = 11;
+pub(crate) const FAREWELL: usize = 11;
 
-pub(crate) const SWEEP: usize = 12;
+pub(crate) const SEND_REPORT: usize = 12;
 
-pub(crate) const BURST: usize = 13;
+pub(crate) const SEND_FAREWELL: usize = 13;
 
-pub(crate) const TAKE: usize = 14;
+pub(crate) const FILL: usize = 14;
 
-pub(crate) const TAKE_NONE: usize = 15;
+pub(crate) const SWEEP: usize = 15;
 
-pub(crate) const TAKE_REFUSED: usize = 16;
+pub(crate) const BURST: usize = 16;
 
-pub(crate) const ITEMS: usize = 17;
+pub(crate) const TAKE: usize = 17;
 
-pub(crate) const ITEMS_REFUSED: usize = 18;
+pub(crate) const TAKE_NONE: usize = 18;
 
-pub(crate) const ITEM_REPORT: usize = 19;
+pub(crate) const TAKE_REFUSED: usize = 19;
 
-pub(crate) const ITEM_SETTINGS: usize = 20;
+pub(crate) const ITEMS: usize = 20;
 
-pub(crate) const ITEM_FAREWELL: usize = 21;
+pub(crate) const ITEMS_REFUSED: usize = 21;
 
-pub(crate) const ITEM_REFUSED: usize = 22;
+pub(crate) const ITEM_REPORT: usize = 22;
 
-pub(crate) const CHOOSE: usize = 23;
+pub(crate) const ITEM_SETTINGS: usize = 23;
 
-pub(crate) const CHOOSE_REFUSED: usize = 24;
+pub(crate) const ITEM_FAREWELL: usize = 24;
 
-pub(crate) const LATENESS: usize = 25;
+pub(crate) const ITEM_REFUSED: usize = 25;
 
-pub(crate) const AGE: usize = 26;
+pub(crate) const CHOOSE: usize = 26;
 
-pub(crate) const DELAY: usize = 27;
+pub(crate) const CHOOSE_REFUSED: usize = 27;
 
-pub(crate) const MEMBERS: usize = 28;
+pub(crate) const LATENESS: usize = 28;
 
-pub(crate) const PLACE: usize = 29;
+pub(crate) const AGE: usize = 29;
 
-pub(crate) const PLACE_FREE: usize = 30;
+pub(crate) const DELAY: usize = 30;
 
-pub(crate) const TALLY: usize = 31;
+pub(crate) const MEMBERS: usize = 31;
 
-pub(crate) const TALLY_NONE: usize = 32;
+pub(crate) const PLACE: usize = 32;
 
-pub(crate) const UNCHANGED: usize = 33;
+pub(crate) const PLACE_FREE: usize = 33;
 
-pub(crate) const UNCHANGED_BUT: usize = 34;
+pub(crate) const TALLY: usize = 34;
 
-pub(crate) const WRITE_REPORT: usize = 35;
+pub(crate) const TALLY_NONE: usize = 35;
 
-pub(crate) const WRITE_SETTINGS: usize = 36;
+pub(crate) const UNCHANGED: usize = 36;
 
-pub(crate) const READ_LINE: usize = 37;
+pub(crate) const UNCHANGED_BUT: usize = 37;
 
-pub(crate) const READ_LINE_REFUSED: usize = 38;
+pub(crate) const WRITE_REPORT: usize = 38;
 
-pub(crate) const WRITE_LINE: usize = 39;
+pub(crate) const WRITE_SETTINGS: usize = 39;
 
-pub(crate) const WRITE_LINE_REFUSED: usize = 40;
+pub(crate) const READ_LINE: usize = 40;
+
+pub(crate) const READ_LINE_REFUSED: usize = 41;
+
+pub(crate) const WRITE_LINE: usize = 42;
+
+pub(crate) const WRITE_LINE_REFUSED: usize = 43;
+
+pub(crate) const REPLAY: usize = 44;
+
+pub(crate) const REPLAY_REFUSED: usize = 45;
+
+pub(crate) const REPLAY_ENTRY: usize = 46;
+
+pub(crate) const REPLAY_TARGET: usize = 47;
+
+pub(crate) const REPLAY_NO_TARGET: usize = 48;
 
 // The form of a line that is no step, and of a step that has none of the forms.
-pub(crate) const PROSE: usize = 41;
+pub(crate) const PROSE: usize = 49;
 
 // The step at a place, with the answer that it expects. In a form # is a number, @ a time, % an origin, ? a report's
 // presented field, ! a target's presented time, & answers of calls, * words of hex, " a text; all else stands for
@@ -97,6 +113,9 @@ pub(crate) fn matched(s: &[u8], at: usize) -> Line {
           reading @ #\n\
           stream # #\n\
           datagram*\n\
+          recording*\n\
+          append*\n\
+          cut #\n\
           reduced size agreed\n\
           reduced size not agreed\n\
           open # # # = #\n\
@@ -133,7 +152,12 @@ pub(crate) fn matched(s: &[u8], at: usize) -> Line {
           line \" = #\n\
           line \" = refused #\n\
           write line # = \"\n\
-          write line # = refused #\n",
+          write line # = refused #\n\
+          replay = #\n\
+          replay = refused #\n\
+          replay entry # = # # #\n\
+          replay target = # !\n\
+          replay target = none\n",
         s,
         at,
     )
@@ -143,6 +167,9 @@ pub(crate) fn matched(s: &[u8], at: usize) -> Line {
 pub(crate) fn print_came(line: Line, s: &[u8]) {
     print_line(
         b"\n\
+          \n\
+          \n\
+          \n\
           \n\
           \n\
           \n\
@@ -182,7 +209,12 @@ pub(crate) fn print_came(line: Line, s: &[u8]) {
           \x20 line $q0: group $n1\n\
           \x20 line $q0: $a1\n\
           \x20 line of group $n0: $w0\n\
-          \x20 line of group $n0: $a1\n",
+          \x20 line of group $n0: $a1\n\
+          \x20 replay: $n0 entries\n\
+          \x20 replay: $a0\n\
+          \x20 entry $n0 of the replay: items $n1, accepted $n2, first refusal number $n3\n\
+          \x20 target of the replay: source $n0, $p1\n\
+          \x20 target of the replay: none\n",
         line,
         s,
     );

@@ -20,6 +20,9 @@
 //                                                where it is taken, its reports are those of the report and fill steps
 //                                                behind it, one by one
 //   datagram HEX..                               the datagram of the steps behind it
+//   recording HEX..                              the bytes of a recording, which the steps behind it replay
+//   append HEX..                                 bytes behind those of the recording
+//   cut BYTES                                    leaves out so many bytes at the recording's end
 //   reduced size agreed                          what the steps behind it that read a datagram are told
 //   reduced size not agreed
 //   take ORIGIN = NUMBER.. | none | refused NUMBER PLACE
@@ -38,12 +41,16 @@
 //   write settings SENDER = HEX..                the target's settings, as the writer writes them
 //   line TEXT = GROUP | refused NUMBER           reads the line of a site file
 //   write line GROUP = TEXT | refused NUMBER     the line of that group number, as the writer writes it
+//   replay = COUNT | refused NUMBER              runs the recording through a table of its own: how many entries it has
+//   replay entry INDEX = ITEMS ACCEPTED NUMBER   what the entry at an index gave in such a run
+//   replay target = SOURCE PRESENTED | none      the choice at the end of such a run
 //
 // A number is decimal, or hex behind 0x, and has 32 bits. A TIME is SECONDS or SECONDS+UNITS, in units of 2^-32 s; so
 // are RECEIVED and a target's PRESENTED. A report's PRESENTED is the field. - as PRESENTED is P 0, or arrival mode. An
 // ORIGIN is ADDRESS:PORT, the address four decimal numbers with dots or 32 hex digits. HEX is eight hex digits. A
-// datagram that is taken in has at most seven answers. A TEXT stands in double quotes and has at most 128 characters;
-// in it \r is CR and \n is LF, every other character stands for itself, and none is a double quote.
+// datagram that is taken in has at most seven answers, and a recording at most 4096 bytes. A TEXT stands in double
+// quotes and has at most 128 characters; in it \r is CR and \n is LF, every other character stands for itself, and none
+// is a double quote.
 mod calls;
 mod datagrams;
 mod forms;
@@ -55,6 +62,7 @@ mod measures;
 mod numbers;
 mod print;
 mod quotes;
+mod recordings;
 mod scene;
 mod text;
 
@@ -69,6 +77,8 @@ use crate::forms::OPEN;
 use crate::forms::PROSE;
 use crate::forms::READ_LINE;
 use crate::forms::READING;
+use crate::forms::REPLAY;
+use crate::forms::REPLAY_NO_TARGET;
 use crate::forms::REPORT;
 use crate::forms::TABLE;
 use crate::forms::TAKE;
@@ -93,6 +103,8 @@ use crate::print::OF;
 use crate::print::print_number;
 use crate::print::say;
 use crate::print::say_either;
+use crate::recordings::recorded;
+use crate::recordings::replay_step;
 use crate::scene::Scene;
 use crate::scene::first_record;
 use crate::scene::record_behind;
@@ -141,7 +153,15 @@ fn line_at(s: &[u8], at: usize) -> Line {
 }
 
 // The table after a line, and the line with what came.
-fn told(table: Table, earlier: Table, line: Line, scene: Scene, record: Record, s: &[u8]) -> Told {
+fn told(
+    table: Table,
+    earlier: Table,
+    line: Line,
+    scene: Scene,
+    record: Record,
+    s: &[u8],
+    recording: &[u8; 4096],
+) -> Told {
     let form = line.form;
     match form {
         TABLE => Told {
@@ -158,6 +178,10 @@ fn told(table: Table, earlier: Table, line: Line, scene: Scene, record: Record, 
         READ_LINE..=WRITE_LINE_REFUSED => Told {
             table,
             line: line_step(line, s),
+        },
+        REPLAY..=REPLAY_NO_TARGET => Told {
+            table,
+            line: replay_step(line, recording, scene.recorded),
         },
         _ => Told {
             table,
@@ -235,7 +259,8 @@ fn ended(score: Score) {
 fn run(s: &[u8]) {
     let mut table = usual_table();
     let mut earlier = table;
-    let mut scene = usual(NOWHERE);
+    let mut scene = usual(NOWHERE, 0);
+    let mut recording = io::buffer();
     let mut record = first_record(0);
     let mut score = Score {
         compared: 0,
@@ -247,12 +272,13 @@ fn run(s: &[u8]) {
             break;
         }
         let line = line_at(s, at);
-        let told = told(table, earlier, line, scene, record, s);
+        let told = told(table, earlier, line, scene, record, s, &recording);
         score = scored(score, printed(line, told.line, s, at, number));
         earlier = kept(earlier, table, line.form);
         table = told.table;
         record = record_behind(record, scene, line);
         scene = scene_behind(scene, told.line);
+        scene.recorded = recorded(&mut recording, scene.recorded, line, s);
         at = forward(line_end(s, at), 1);
     }
     ended(score);

@@ -52,7 +52,7 @@ const UNKNOWN: usize = 19;
 // The phrase of the answer 0, which those of the other answers follow.
 const ANSWERS: usize = 20;
 
-const LAST_ANSWER: u64 = 24;
+const LAST_ANSWER: u64 = 25;
 
 // A phrase by its number. What the answers stand for comes last, so that one more answer is
 // one more line and a higher LAST_ANSWER.
@@ -102,7 +102,8 @@ pub(crate) fn say(phrase: usize) {
           not the line of a group number\n\
           more than ten digits or a group above 4294967294\n\
           more than 64 reports\n\
-          an answer list shorter than the reports\n",
+          an answer list shorter than the reports\n\
+          bad layout of a recording\n",
         phrase,
     );
 }

@@ -17,7 +17,7 @@ use register::Record;
 use register::ReportFields;
 
 // What the table was opened for, the reading, the group and media source of reports, where in the text the datagram
-// stands, and whether reduced size was agreed.
+// stands, whether reduced size was agreed, and how many bytes of a recording there are.
 pub(crate) struct Scene {
     pub group: u32,
     pub media: u32,
@@ -26,6 +26,7 @@ pub(crate) struct Scene {
     pub report_media: u32,
     pub datagram: usize,
     pub reduced: bool,
+    pub recorded: usize,
 }
 
 // A report with P 1 and payload type 33.
@@ -55,7 +56,7 @@ pub(crate) fn first_record(source: u32) -> Record {
 }
 
 // The papers' table and reading, where reduced size was not agreed.
-pub(crate) fn usual(datagram: usize) -> Scene {
+pub(crate) fn usual(datagram: usize, recorded: usize) -> Scene {
     Scene {
         group: 42,
         media: 7,
@@ -67,6 +68,7 @@ pub(crate) fn usual(datagram: usize) -> Scene {
         report_media: 7,
         datagram,
         reduced: false,
+        recorded,
     }
 }
 
@@ -132,7 +134,7 @@ fn told_size(scene: Scene, reduced: bool) -> Scene {
 pub(crate) fn scene_behind(scene: Scene, line: Line) -> Scene {
     let form = line.form;
     match form {
-        TABLE => usual(scene.datagram),
+        TABLE => usual(scene.datagram, scene.recorded),
         READING => read(scene, line),
         STREAM => streamed(scene, line),
         DATAGRAM => sent(scene, line),

@@ -6,11 +6,11 @@ use Rattle.receiving_bench.proofs.run.Statement.{statement}
 use Rattle.receiving_bench.proofs.run.Tie as tie
 
 abbrev Inv-loop : tie.InvT-loop
-Inv-loop s table₀ earlier₀ scene₀ record₀ score₀ at₀ number₀ number-end table earlier scene «record» score at number =
+Inv-loop s table₀ earlier₀ scene₀ recording₀ record₀ score₀ at₀ number₀ number-end table earlier scene recording «record» score at number =
     Unit
 
 abbrev μ-loop : tie.MeasureT-loop
-μ-loop s table₀ earlier₀ scene₀ record₀ score₀ at₀ number₀ number-end table earlier scene «record» score at number =
+μ-loop s table₀ earlier₀ scene₀ recording₀ record₀ score₀ at₀ number₀ number-end table earlier scene recording «record» score at number =
     number-end - number
 
 usual-table-requires : tie.Need-usual-table-requires Inv-loop μ-loop
@@ -18,6 +18,9 @@ usual-table-requires c κs = search needs
 
 usual-requires : tie.Need-usual-requires Inv-loop μ-loop
 usual-requires c κs = search needs
+
+buffer-requires : tie.Need-buffer-requires Inv-loop μ-loop
+buffer-requires c κs = search needs
 
 first-record-requires : tie.Need-first-record-requires Inv-loop μ-loop
 first-record-requires c κs = search needs
@@ -46,6 +49,9 @@ record-behind-requires c κs = search needs
 scene-behind-requires : tie.Need-scene-behind-requires Inv-loop μ-loop
 scene-behind-requires c κs = search needs
 
+recorded-requires : tie.Need-recorded-requires Inv-loop μ-loop
+recorded-requires c κs = search needs
+
 line-end-requires : tie.Need-line-end-requires Inv-loop μ-loop
 line-end-requires c κs = search needs
 
@@ -54,12 +60,12 @@ forward-requires c κs = search needs
 
 add-number : tie.Need-add-number Inv-loop μ-loop
 add-number c =
-    let b = c .before .before .before .before .before .before .before .before .before .before .before in
+    let b = c .before .before .before .before .before .before .before .before .before .before .before .before .before .before in
     omega (arith, b)
 
 loop-less : tie.Need-loop-less Inv-loop μ-loop
 loop-less c =
-    let b = c .before .before .before .before .before .before .before .before .before .before .before in
+    let b = c .before .before .before .before .before .before .before .before .before .before .before .before .before .before in
     omega (arith, b)
 
 loop-again : tie.Need-loop-again Inv-loop μ-loop
@@ -79,6 +85,7 @@ run-spec =
     μ-loop
     usual-table-requires
     usual-requires
+    buffer-requires
     first-record-requires
     loop-holds
     line-at-requires
@@ -88,6 +95,7 @@ run-spec =
     kept-requires
     record-behind-requires
     scene-behind-requires
+    recorded-requires
     line-end-requires
     forward-requires
     add-number
