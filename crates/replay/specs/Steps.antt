@@ -41,8 +41,8 @@ firstRow (Count.Items n) = record { items = n; accepted = 0; number = 0 }
 firstRow (Count.Refused r) = record { items = 0; accepted = 0; number = r .number }
 
 -- the first of two numbers that is not 0, if one is not
-abbrev pub firstOf : ℕ → ℕ → ℕ
-firstOf number later = cond (eqb number 0) later number
+abbrev pub firstNumber : ℕ → ℕ → ℕ
+firstNumber number later = cond (eqb number 0) later number
 
 -- the row behind a call that gets a number
 unfoldable pub rowAfter : Row → ℕ → Row
@@ -50,7 +50,7 @@ rowAfter row number =
     record {
       items = row .items;
       accepted = cond (eqb number 0) (row .accepted + 1) (row .accepted);
-      number = firstOf (row .number) number;
+      number = firstNumber (row .number) number;
     }
 
 -- as it stands in the list
@@ -60,4 +60,4 @@ cellsOf row = row .items ∷ row .accepted ∷ row .number ∷ []
 -- and as it will, once calls that get these numbers have been made
 abbrev pub rowWithMore : Row → List ℕ → List ℕ
 rowWithMore row numbers =
-    row .items ∷ (row .accepted + acceptedIn numbers) ∷ firstOf (row .number) (firstRefusal numbers) ∷ []
+    row .items ∷ (row .accepted + acceptedIn numbers) ∷ firstNumber (row .number) (firstRefusal numbers) ∷ []

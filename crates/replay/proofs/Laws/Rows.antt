@@ -10,28 +10,28 @@ use native.Mathlib.Omega.{arith}
 use borrow.Author.Tests.{eqb-true, eqb-false, ne-eqb, eq-eqb}
 use Rattle.replay.specs.declared.steps.Row.{Row}
 use Rattle.replay.specs.Replay.{acceptedIn, firstRefusal}
-use Rattle.replay.specs.Steps.{firstOf, rowAfter, cellsOf, rowWithMore}
+use Rattle.replay.specs.Steps.{firstNumber, rowAfter, cellsOf, rowWithMore}
 
-pub first-of-none : (number : ℕ) → firstOf number 0 ≡ number
-first-of-none number = go (eqb number 0) refl
+pub first-number-none : (number : ℕ) → firstNumber number 0 ≡ number
+first-number-none number = go (eqb number 0) refl
   where
-    go : (b : Bool) → eqb number 0 ≡ b → firstOf number 0 ≡ number
+    go : (b : Bool) → eqb number 0 ≡ b → firstNumber number 0 ≡ number
     go true e = rw e (sym (eqb-true number 0 e))
     go false e = rw e refl
 
-first-of-kept : (a b : ℕ) → eqb a 0 ≡ false → firstOf a b ≡ a
-first-of-kept a b e = rw e refl
+first-number-kept : (a b : ℕ) → eqb a 0 ≡ false → firstNumber a b ≡ a
+first-number-kept a b e = rw e refl
 
 -- the first of three numbers
-first-of-more : (a b c : ℕ) → firstOf a (firstOf b c) ≡ firstOf (firstOf a b) c
-first-of-more a b c = go (eqb a 0) refl
+first-number-more : (a b c : ℕ) → firstNumber a (firstNumber b c) ≡ firstNumber (firstNumber a b) c
+first-number-more a b c = go (eqb a 0) refl
   where
-    go : (t : Bool) → eqb a 0 ≡ t → firstOf a (firstOf b c) ≡ firstOf (firstOf a b) c
+    go : (t : Bool) → eqb a 0 ≡ t → firstNumber a (firstNumber b c) ≡ firstNumber (firstNumber a b) c
     go true e = rw e refl
     go false e =
-        first-of-kept a (firstOf b c) e
-        ∙ sym (first-of-kept a c e)
-        ∙ ap (λ (n : ℕ). firstOf n c) (sym (first-of-kept a b e))
+        first-number-kept a (firstNumber b c) e
+        ∙ sym (first-number-kept a c e)
+        ∙ ap (λ (n : ℕ). firstNumber n c) (sym (first-number-kept a b e))
 
 accepted-more : (t : Bool) (n m : ℕ) → n + cond t (1 + m) m ≡ cond t (n + 1) n + m
 accepted-more true n m = omega arith
@@ -44,7 +44,7 @@ module _ (row : Row) (number : ℕ) where
       number ≡ 0
       → record { items = row .items; accepted = row .accepted + 1; number = row .number } ≡ rowAfter row number
   unfolding rowAfter
-  row-accepted e = rw (e, first-of-none (row .number)) refl
+  row-accepted e = rw (e, first-number-none (row .number)) refl
 
   pub row-refused :
       (number ≡ 0 → ⊥) → row .number ≡ 0
@@ -67,15 +67,15 @@ row-more row number numbers =
     let after = rowAfter row number in
     let sum : row .accepted + acceptedIn (number ∷ numbers) ≡ after .accepted + acceptedIn numbers =
     accepted-more (eqb number 0) (row .accepted) (acceptedIn numbers) in
-    ap (λ (n : ℕ). row .items ∷ n ∷ firstOf (row .number) (firstRefusal (number ∷ numbers)) ∷ []) sum
+    ap (λ (n : ℕ). row .items ∷ n ∷ firstNumber (row .number) (firstRefusal (number ∷ numbers)) ∷ []) sum
     ∙ ap (λ (n : ℕ). row .items ∷ (after .accepted + acceptedIn numbers) ∷ n ∷ [])
-    (first-of-more (row .number) number (firstRefusal numbers))
+    (first-number-more (row .number) number (firstRefusal numbers))
 
 pub row-whole : (row : Row) → rowWithMore row [] ≡ cellsOf row
 unfolding acceptedIn firstRefusal
 row-whole row =
     let sum : row .accepted + 0 ≡ row .accepted = omega arith in
-    rw (sum, first-of-none (row .number)) refl
+    rw (sum, first-number-none (row .number)) refl
 
 pub accepted-after : (row : Row) (number : ℕ) → rowAfter row number .accepted ≤ row .accepted + 1
 unfolding rowAfter
