@@ -7,7 +7,7 @@
 # make host     the example host, on the loopback
 # make ctest    the C tests
 # make rtest    the Rust tests
-# make bench    times the archive beside a Rust decoder, encoder and table
+# make bench    times the archive beside a Rust decoder, encoder, table and replay
 # make fuzz     coverage-guided comparison for FUZZ_SECONDS (60) a target; not part of make test
 # make fuzz-faults  shows that planted faults are found by it
 # make clean    removes all that was built
