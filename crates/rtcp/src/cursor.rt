@@ -21,7 +21,7 @@ ghost use Rattle.datagram.specs.Datagram.{datagramCheck, datagramItems};
 ghost use Rattle.rtcp.specs.Cursor.{advance, nextOf, start};
 ghost use Rattle.rtcp.specs.Answers.{nothing, cursorOn};
 
-// Where a walk over a datagram stands. Only `open_datagram` and `next_item` make one.
+// Where a walk over a datagram stands. Only `open_datagram`, `first_cursor` and `next_item` make one.
 pub struct Cursor {
     state: State,
 }
@@ -153,7 +153,8 @@ pub fn next_item(d: &[u8], from: Cursor) -> Step
     }
 }
 
-// Before the first item of a datagram, where `open_datagram` puts its cursor.
+// A cursor before the first item of any datagram, where `open_datagram` puts its own: for a caller that has counted the
+// items. With a datagram that is refused it gives what it can read.
 pub fn first_cursor() -> Cursor
     ensures { λ r. ⌜ r ≡ start ⌝ }
 {

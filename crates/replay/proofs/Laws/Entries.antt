@@ -1,9 +1,9 @@
 -- Laws of running entries: an entry begins, its calls come off one by one, and its row is put when none is left.
-use Prim.Native.Nat.{ℕ, suc, _+_, _-_, _*_, _≤_, _<_}
+use Prim.Native.Nat.{ℕ, suc, _+_, _-_, _*_, _≤_}
 use mathlib.Core.Path.{_≡_, refl, sym, ap, subst, _∙_}
-use mathlib.Core.Bool.{Bool, false}
-use mathlib.Core.List.{List, [], _∷_, _++_, append-nil}
-use lib.ListN.{length, drop, length-append}
+use mathlib.Core.Bool.{false}
+use mathlib.Core.List.{List, [], _∷_, _++_}
+use lib.ListN.{length, drop}
 use lib.Seq.{sets, length-sets}
 use native.Mathlib.Omega.{arith}
 use Rattle.idms.specs.declared.Item.{Item}
@@ -21,7 +21,6 @@ use Rattle.rtcp.specs.Cursor.{start, given}
 use Rattle.rtcp.specs.Answers.{cursorOn}
 use Rattle.rtcp.proofs.Theorems.{count-bound}
 use Rattle.register.specs.declared.Reading.{Reading}
-use Rattle.register.specs.declared.Choice.{Choice}
 use Rattle.register.specs.Register.{Call}
 use Rattle.table.specs.declared.Table.{Table}
 use Rattle.table.specs.declared.Answered.{Answered}

@@ -1,6 +1,6 @@
 -- Laws of the items that are left of a datagram: one comes off the front.
 use Prim.Native.Nat.{ℕ, suc, zero, _-_, _<_}
-use mathlib.Core.Path.{_≡_, refl, sym, ap, _∙_}
+use mathlib.Core.Path.{_≡_, refl}
 use mathlib.Core.Bool.{Bool, true, false}
 use mathlib.Core.List.{List, [], _∷_}
 use lib.Dec.{eqb}

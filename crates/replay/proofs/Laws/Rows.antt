@@ -7,7 +7,7 @@ use lib.Dec.{eqb}
 use lib.ListN.{length, set, length-set}
 use lib.Seq.{sets}
 use native.Mathlib.Omega.{arith}
-use borrow.Author.Tests.{eqb-true, eqb-false, ne-eqb, eq-eqb}
+use borrow.Author.Tests.{eqb-true, ne-eqb}
 use Rattle.replay.specs.declared.steps.Row.{Row}
 use Rattle.replay.specs.Replay.{acceptedIn, firstRefusal}
 use Rattle.replay.specs.Steps.{firstNumber, rowAfter, cellsOf, rowWithMore}

@@ -20,7 +20,6 @@ use Rattle.rtcp.specs.declared.cursor.Step.{Step}
 use Rattle.rtcp.specs.Cursor.{start, given}
 use Rattle.register.specs.declared.Record.{Record}
 use Rattle.register.specs.declared.Member.{Member}
-use Rattle.register.specs.declared.Reading.{Reading}
 use Rattle.register.specs.Register.{Call}
 use Rattle.choosing.specs.Marked.{nobody}
 use Rattle.table.specs.declared.Table.{Table}

@@ -1,7 +1,7 @@
 -- One item after the other, and one entry after the other: `Running` says what is left. The measure counts the entries
 -- left, each as more than a datagram has items, and the items left.
-use Prim.Native.Nat.{ℕ, _+_, _-_, _*_, _<_}
-use mathlib.Core.Path.{_≡_, refl, sym, ap, _∙_}
+use Prim.Native.Nat.{_+_, _-_, _*_}
+use mathlib.Core.Path.{refl, sym, ap, _∙_}
 use native.Mathlib.Omega.{arith}
 use borrow.Author.Needs.{needs}
 use Rattle.table.specs.declared.Chosen.{Chosen}
