@@ -67,7 +67,7 @@ struct prunepocket_answer {
 /* Numbers 23 and 24 are of a burst of reports, and have no place. */
 #define PRUNEPOCKET_LONG_BURST 23    /* more than 64 reports */
 #define PRUNEPOCKET_SHORT_ANSWERS 24 /* answer list shorter than the reports */
-/* Number 25 is of a recording, and has no place. */
+/* Number 25 is of a recording, and has no place; 12 and 10 are given for one too, without a place. */
 #define PRUNEPOCKET_BAD_LAYOUT 25 /* over 65,536 bytes, cut short, over 256 entries, or not ending with the bodies */
 
 /* ---- Items --------------------------------------------------------------
@@ -95,7 +95,7 @@ struct prunepocket_answer {
 #define PRUNEPOCKET_ROW 10 /* columns of a row: a column that the item does not have holds 0 */
 
 /*
- * Every call that reads a datagram is told by reduced_size whether reduced-size
+ * Every call that is given a datagram is told by reduced_size whether reduced-size
  * RTCP (RFC 5506) was agreed with the unit that sent it: 0 says that it was not,
  * and every other value of the 32 bits that it was. A host knows it from its SDP,
  * where the line a=rtcp-rsize stands for it. Where it was agreed, the first packet
@@ -492,8 +492,8 @@ struct prunepocket_followed prunepocket_choose(struct prunepocket_table table,
  *                         recording ends
  *
  * A recording without entries is its head alone. A body may have any length
- * that the recording has room for, 0 included, whether or not the reader takes
- * it: what it refuses is refused as an entry.
+ * that the recording has room for, 0 included. A datagram that the reader
+ * refuses still has its entry and its row.
  */
 #define PRUNEPOCKET_RECORDING_LIMIT 65536 /* the most bytes of a recording */
 #define PRUNEPOCKET_ENTRY_LIMIT 256       /* the most entries of a recording */
@@ -515,7 +515,7 @@ struct prunepocket_replayed {
  * Runs a recording through a table that is opened for its group, media source
  * and rate: each datagram in turn, as prunepocket_take_datagram takes it under
  * its entry's origin and reading, with reduced size not agreed; then chooses at
- * the last entry's reading. Without entries there is no target.
+ * the last entry's reading. It never sweeps. Without entries there is no target.
  * What each entry gave goes into rows, PRUNEPOCKET_ENTRY_ROW numbers an entry:
  * its items; how many of its reports and farewells were accepted; and the first
  * number other than 0 that one of them got, 13 to 19, or 0. Settings are items,

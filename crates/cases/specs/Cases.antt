@@ -1,4 +1,4 @@
--- The bench cases of document 01 that are marked P, and those of document 02, E3, E5 and E6, as one list of
+-- The bench cases of document 01 that are marked P, and those of document 02, E3, E5, E6 and E7, as one list of
 -- statements about the definitions.
 use Prim.Native.Nat.{ℕ, _+_, _-_, _*_, _^_}
 use mathlib.Core.Bool.{false}
@@ -355,7 +355,8 @@ exampleRecording =
     ∷ 0x0C ∷ 0x11 ∷ 0x00 ∷ 0x07 ∷ 0x42 ∷ 0x00 ∷ 0x00 ∷ 0x00 ∷ 0x00 ∷ 0x00 ∷ 0x00 ∷ 0x2A ∷ 0x00 ∷ 0x00 ∷ 0x00 ∷ 0x07
     ∷ 0x00 ∷ 0x00 ∷ 0x03 ∷ 0xE6 ∷ 0x00 ∷ 0x00 ∷ 0x00 ∷ 0x00 ∷ 0x00 ∷ 0x86 ∷ 0x95 ∷ 0x20 ∷ 0x03 ∷ 0xE6 ∷ 0xC0 ∷ 0x00 ∷ []
 
--- the example's lines as numbers, with a number behind the rows that stays; without its last byte 25; 10 for five numbers
+-- the example's lines as numbers, with a number behind the rows that stays; without its last byte 25; 10 for five
+-- numbers
 abbrev pub E7Example : Type 0
 E7Example =
     (replayed exampleRecording (replicate 7 99)

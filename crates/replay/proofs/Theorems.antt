@@ -97,7 +97,7 @@ module _
       record {
         reached = first-reached;
         count = entries-length f;
-        rows = λ before later e is.
+        entry-rows = λ before later e is.
             rw (taken-rows, is)
             (row-of-entry (opened o .table) before later e _
             ∙ row-answered o before e (first-reached before (e ∷ later) is));
@@ -120,13 +120,13 @@ pub every-recording : EveryRecording
 unfolding replayed replayedRows
 every-recording =
     record {
-      layout = λ f lent bad. record { answer = rw bad refl; unchanged = rw bad refl };
-      opening = λ f lent good bad.
+      bad-layout = λ f lent bad. record { refused-with = rw bad refl; unchanged = rw bad refl };
+      bad-opening = λ f lent good bad.
           let told : isRefusedOpening (openingIn f) ≡ true = tells-bad-opening (openingIn f) .1 bad in
-          record { answer = rw (good, told) refl; unchanged = rw (good, told) refl };
-      short = λ f lent good takes less.
+          record { refused-with = rw (good, told) refl; unchanged = rw (good, told) refl };
+      few-rows = λ f lent good takes less.
           let told : isRefusedOpening (openingIn f) ≡ false = untold-opening (openingIn f) takes in
           let few : ltb (length lent) (entryRowLength * entryCount f) ≡ true = lt-ltb _ _ less in
-          record { answer = rw (good, told, few) refl; unchanged = rw (good, told, few) refl };
-      taken = recording-reached;
+          record { refused-with = rw (good, told, few) refl; unchanged = rw (good, told, few) refl };
+      replays = recording-reached;
     }

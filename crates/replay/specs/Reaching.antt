@@ -3,8 +3,8 @@
 -- opened for its head: so all that table History and register Letter say of a table that calls reach, they say of the
 -- table that any first entries leave, though the call hands none back; each entry's row counts the register's answers,
 -- and the choice is the register's. What a program prints of it is tested and not proved.
--- To be believed besides: Recording; of Replay `entryRowLength`, `entryCalls`, `entryRowWith`, `callsOfEntries` and what
--- they use, `callsIn` (intake Datagrams) and `recordOf` (table Intake) among it; and what reading gives (datagram
+-- To be believed besides: Recording; of Replay `entryRowLength`, `entryCalls`, `entryRowWith`, `callsOfEntries` and
+-- what they use, `callsIn` (intake Datagrams) and `recordOf` (table Intake) among it; and what reading gives (datagram
 -- Datagram with what it uses of `packet`).
 use Prim.Native.Nat.{ℕ, _*_, _≤_, _<_}
 use mathlib.Core.Path.{_≡_}
@@ -49,7 +49,7 @@ module _ (f lent : List ℕ) where
     -- there are as many entries as the head says
     pub count : length (entriesIn f) ≡ entryCount f
     -- each has its row, made of the register's answers to its calls
-    pub rows :
+    pub entry-rows :
         (before later : List RecordedDatagram) (e : RecordedDatagram) → entriesIn f ≡ before ++ e ∷ later →
         take entryRowLength (drop (entryRowLength * length before) (replayedRows f lent))
         ≡ entryRowWith e (answersTo (openingIn f) before e)
@@ -67,17 +67,17 @@ module _ (f lent : List ℕ) where
 
   -- what is said of one that is refused: that number is the answer, and the lent rows are as they were (demand 1)
   pub record RecordingRefused (number : ℕ) : Type 0 where
-    pub answer : replayed f lent ≡ Replayed.Refused number
+    pub refused-with : replayed f lent ≡ Replayed.Refused number
     pub unchanged : replayedRows f lent ≡ lent
 
 -- of every file: 25, then 12, then 10; and where none applies, demand 3
 pub record EveryRecording : Type 0 where
-  pub layout : (f lent : List ℕ) → isBadLayout f ≡ true → RecordingRefused f lent badLayout
-  pub opening :
+  pub bad-layout : (f lent : List ℕ) → isBadLayout f ≡ true → RecordingRefused f lent badLayout
+  pub bad-opening :
       (f lent : List ℕ) → isBadLayout f ≡ false → BadOpening (openingIn f) → RecordingRefused f lent badOpening
-  pub short :
+  pub few-rows :
       (f lent : List ℕ) → isBadLayout f ≡ false → (BadOpening (openingIn f) → ⊥) →
       length lent < entryRowLength * entryCount f → RecordingRefused f lent shortBuffer
-  pub taken :
+  pub replays :
       (f lent : List ℕ) → AreBytes f → isBadLayout f ≡ false → (BadOpening (openingIn f) → ⊥) →
       entryRowLength * entryCount f ≤ length lent → RecordingReached f lent

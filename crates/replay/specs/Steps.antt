@@ -53,7 +53,7 @@ rowAfter row number =
       number = firstNumber (row .number) number;
     }
 
--- as it stands in the list
+-- as it stands in the lent rows
 abbrev pub cellsOf : Row → List ℕ
 cellsOf row = row .items ∷ row .accepted ∷ row .number ∷ []
 

@@ -83,7 +83,7 @@ fn address_at(f: &[u8], at: usize) -> [u8; 16]
     address
 }
 
-// Where the table of contents has an entry.
+// Where entry n starts; with the entry count for n, where the bodies start.
 pub(crate) fn entry_place(n: usize) -> usize
     requires { ⌜ n ≤ entryLimit ⌝ }
     ensures { λ r. ⌜ r ≡ entryPlace n ⌝ }

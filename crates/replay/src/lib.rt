@@ -52,6 +52,7 @@ fn run_entries(t: Table, f: &[u8], n: usize, rows: &mut [u64]) -> Choice
         ≡ entryRows t (entriesIn (now (f .entry))) ++ drop (entryRowLength * n) (now (rows .entry))) ⌝ }
 {
     let mut table = t;
+    // A table just opened has source number 0 at every place.
     let mut sources = [0u32; 64];
     let mut i: usize = 0;
     let mut entry = entry_at(f, entry_place(0), entry_place(n));
@@ -71,6 +72,7 @@ fn run_entries(t: Table, f: &[u8], n: usize, rows: &mut [u64]) -> Choice
                     Item::Report(report) => {
                         let record = record_of(report, origin);
                         let found = place_among(table.held, sources, record.source);
+                        // Where no member was found this is the first place, as `filing_at` asks.
                         let slot = found % 64;
                         let there = table.members[slot];
                         let filing = filing_at(

@@ -1,8 +1,8 @@
 -- A cursor over the items of a datagram, and what it gives next. `open_datagram` opens one only on a datagram that is
 -- not refused; from there, `cursor-in-turn` (proofs/Theorems.antt) says that it gives the datagram's items.
 -- `first_cursor` is the same cursor, for a caller that has counted them. A call has no `requires`, so the definitions
--- speak of every cursor with every datagram. One that was opened on another datagram gives what it can read, which may be
--- items of a datagram that is refused, and ends where it cannot read on.
+-- speak of every cursor with every datagram. One that was opened on another datagram gives what it can read, which may
+-- be items of a datagram that is refused, and ends where it cannot read on.
 use Prim.Native.Nat.{ℕ, suc, zero, _+_, _-_, _*_}
 use mathlib.Core.List.{List, [], _∷_, _++_}
 use mathlib.Core.Bool.{cond}

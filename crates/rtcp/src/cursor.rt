@@ -133,7 +133,8 @@ fn stepped(d: &[u8], c: State) -> Advance
 
 // The next item of the datagram that the cursor was opened on and the cursor behind it, or the end. With another
 // datagram it gives what can be read there, which may be an item of one that is refused: not all checks are made again.
-// So it need not be told whether reduced size was agreed: what depends on that was checked when the cursor was opened.
+// So it need not be told whether reduced size was agreed: what depends on that was checked when the cursor was opened,
+// or the items were counted.
 pub fn next_item(d: &[u8], from: Cursor) -> Step
     ensures { λ r. ⌜ r ≡ nextOf (now (d .entry)) from ⌝ }
 {

@@ -2,7 +2,8 @@
 // at an index, all of them as rows of numbers, and a cursor over them. Every call takes any bytes. A datagram that
 // breaks a rule is refused: it has no count, no item at an index, no rows, and no cursor is opened on it. A cursor is
 // for the datagram that it was opened on; nothing ties it to that one, and passed with another it gives what it can
-// read there, also where that datagram is refused.
+// read there, also where that datagram is refused. `first_cursor` gives one for any datagram, for a caller that has
+// counted the items.
 mod cursor;
 mod item;
 mod rows;

@@ -1,5 +1,6 @@
 // What a report does to a table, which is a change of one place at most. Every decision is made here and in
-// `Table::filing`, on plain values; a caller has only to store what is answered.
+// `Table::filing`, on plain values; a caller stores what is answered, and one of `filing_at` has searched for the
+// place.
 use crate::tally::raised;
 use checks::report_number;
 use origin::same_origin;

@@ -8,7 +8,8 @@ use lib.Dec.{ltb, eqb}
 use lib.Seq.{paste, drop-length}
 use native.Mathlib.Omega.{arith}
 use borrow.Author.Tests.{lt-ltb, le-ltb, ltb-false, eqb-true}
-use Rattle.replay.specs.Recording.{recordingHeadSize, entryCount, entrySize, entryPlace, bodyLength, recordingLimit, entryLimit}
+use Rattle.replay.specs.Recording.{recordingHeadSize, entryCount, entrySize, entryPlace, bodyLength}
+use Rattle.replay.specs.Recording.{recordingLimit, entryLimit}
 use Rattle.replay.specs.Recording.{RecordedDatagram, entryReading, entryOrigin, entriesFrom, bodiesEnd}
 use Rattle.replay.specs.Recording.{entriesIn, isBadLayout}
 

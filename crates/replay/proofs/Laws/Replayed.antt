@@ -108,7 +108,8 @@ module _ (f lent : List ℕ) where
             g
             ∙ ap (λ (t : Table). entryRows t (entriesIn f) ++ drop (entryRowLength * n) lent) table
             ∙ ap
-            (λ (k : ℕ). entryRows (opened (openingIn f) .table) (entriesIn f) ++ drop (entryRowLength * k) lent) count in
+            (λ (k : ℕ). entryRows (opened (openingIn f) .table) (entriesIn f) ++ drop
+            (entryRowLength * k) lent) count in
             rw (good, taken, le-ltb (length lent) (entryRowLength * entryCount f) enough)
             (ap (λ (k : ℕ). Replayed.Entries k c) count ∙ ap (Replayed.Entries (entryCount f)) choice, rows)
 

@@ -48,7 +48,8 @@ returns-2 c =
     let layout = opened .before .before .before .before .before in
     replayed-opening _ _ (sym (layout .before .is-bad-layout .ensures) ∙ layout .if1 .left) _
     (opened .«open» .ensures
-    ∙ opening-read _ (opened .before .before .before .read322 .ensures) (opened .before .before .read323 .ensures) (opened .before .read324 .ensures))
+    ∙ opening-read _ (opened .before .before .before .read322 .ensures) (opened .before .before .read323 .ensures)
+    (opened .before .read324 .ensures))
     (c .if2 .taken)
 
 mul-if3 : tie.Need-mul-if3
@@ -60,7 +61,8 @@ returns-3 c =
     let layout = opened .before .before .before .before .before in
     replayed-short _ _ (sym (layout .before .is-bad-layout .ensures) ∙ layout .if1 .left) _
     (opened .«open» .ensures
-    ∙ opening-read _ (opened .before .before .before .read322 .ensures) (opened .before .before .read323 .ensures) (opened .before .read324 .ensures))
+    ∙ opening-read _ (opened .before .before .before .read322 .ensures) (opened .before .before .read323 .ensures)
+    (opened .before .read324 .ensures))
     (c .before .if2 .left) _ (opened .before .before .before .before .read32 .ensures) (c .if3 .taken)
 
 returns-4 : tie.Need-returns-4
@@ -69,8 +71,10 @@ returns-4 c =
     let layout = opened .before .before .before .before .before in
     replayed-none _ _ (sym (layout .before .is-bad-layout .ensures) ∙ layout .if1 .left) _
     (opened .«open» .ensures
-    ∙ opening-read _ (opened .before .before .before .read322 .ensures) (opened .before .before .read323 .ensures) (opened .before .read324 .ensures))
-    (c .before .before .if2 .left) _ (opened .before .before .before .before .read32 .ensures) (c .before .if3 .left) (c .if4 .taken)
+    ∙ opening-read _ (opened .before .before .before .read322 .ensures) (opened .before .before .read323 .ensures)
+    (opened .before .read324 .ensures))
+    (c .before .before .if2 .left) _ (opened .before .before .before .before .read32 .ensures)
+    (c .before .if3 .left) (c .if4 .taken)
 
 run-entries-requires : tie.Need-run-entries-requires
 run-entries-requires c κs =
@@ -98,8 +102,11 @@ returns-5 c =
     let run = c .before .before .run-entries in
     replayed-entries _ _ (sym (layout .before .is-bad-layout .ensures) ∙ layout .if1 .left) _
     (opened .«open» .ensures
-    ∙ opening-read _ (opened .before .before .before .read322 .ensures) (opened .before .before .read323 .ensures) (opened .before .read324 .ensures))
-    (c .before .before .before .before .before .before .before .if2 .left) _ (opened .before .before .before .before .read32 .ensures) (c .before .before .before .before .before .before .if3 .left) _ _ (run .ensures .0) (run .ensures .1)
+    ∙ opening-read _ (opened .before .before .before .read322 .ensures) (opened .before .before .read323 .ensures)
+    (opened .before .read324 .ensures))
+    (c .before .before .before .before .before .before .before .if2 .left) _
+    (opened .before .before .before .before .read32 .ensures)
+    (c .before .before .before .before .before .before .if3 .left) _ _ (run .ensures .0) (run .ensures .1)
 
 pub replay-spec : {M : Type 1} → statement M
 replay-spec =

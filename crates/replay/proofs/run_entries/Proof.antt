@@ -117,7 +117,8 @@ element-set-from-member c = search needs
 
 row-after-requires : tie.Need-row-after-requires Inv-loop μ-loop
 row-after-requires c κs =
-    omega (arith, c .before .before .before .before .before .before .before .before .before .before .before .before .before .before .loop .inv .few)
+    omega
+    (arith, c .before .before .before .before .before .before .before .before .before .before .before .before .before .before .loop .inv .few)
 
 loop-less : tie.Need-loop-less Inv-loop μ-loop
 loop-less c =
@@ -131,7 +132,8 @@ loop-again c =
     let around = item .before .before in
     running-report (around .before .loop .inv) _ _ (sym (around .next-of .ensures) ∙ item .x .given .1) _ _ _ _
     (c .before .before .before .before .place-among .ensures) refl (c .before .before .filing-at .ensures .0) _ _
-    (c .before .before .before .before .before .before .before .item .given .1) (c .before .before .before .before .before .record-of .ensures) (c .row-after .ensures)
+    (c .before .before .before .before .before .before .before .item .given .1)
+    (c .before .before .before .before .before .record-of .ensures) (c .row-after .ensures)
 
 enum-known-item-2 : tie.Need-enum-known-item-2 Inv-loop μ-loop
 enum-known-item-2 c = search needs
@@ -141,7 +143,8 @@ farewell-requires c κs = search needs
 
 row-after-requires-2 : tie.Need-row-after-requires-2 Inv-loop μ-loop
 row-after-requires-2 c κs =
-    omega (arith, c .before .before .before .before .before .before .before .before .before .before .before .loop .inv .few)
+    omega
+    (arith, c .before .before .before .before .before .before .before .before .before .before .before .loop .inv .few)
 
 loop-less-2 : tie.Need-loop-less-2 Inv-loop μ-loop
 loop-less-2 c =
@@ -169,7 +172,8 @@ loop-again-3 : tie.Need-loop-again-3 Inv-loop μ-loop
 loop-again-3 c =
     let item = c .before .before .before .before .before in
     let around = item .before .before in
-    running-settings (around .before .loop .inv) _ _ (sym (around .next-of .ensures) ∙ item .x .given .1) _ (c .enum-told .given .1)
+    running-settings (around .before .loop .inv) _ _ (sym (around .next-of .ensures) ∙ item .x .given .1) _
+    (c .enum-told .given .1)
 
 enum-told-2 : tie.Need-enum-told-2 Inv-loop μ-loop
 enum-told-2 c = search needs
@@ -203,7 +207,13 @@ returns c =
 entry-place-requires-3 : tie.Need-entry-place-requires-3 Inv-loop μ-loop
 entry-place-requires-3 c κs =
     let pre = c .before .before .before .before .before .before .before .before .before .before .before .before .before .before .before .before .before .before .pre in
-    omega (arith, pre .2, good-layout _ (pre .1) .few, c .before .before .before .before .before .before .before .before .loop .inv .inside)
+    omega (
+      arith,
+      pre .2,
+      good-layout _
+          (pre .1) .few,
+      c .before .before .before .before .before .before .before .before .loop .inv .inside,
+    )
 
 entry-at-requires-2 : tie.Need-entry-at-requires-2 Inv-loop μ-loop
 entry-at-requires-2 c κs =
@@ -237,8 +247,13 @@ first-cursor-requires-2 c κs = search needs
 loop-less-4 : tie.Need-loop-less-4 Inv-loop μ-loop
 loop-less-4 c =
     let l = c .before .before .before .before .before .before .before .before .before .before .before .before .before .before .loop in
-    omega
-    (arith, l .inv .inside, c .before .before .items-in2 .ensures, begins-few _ _ (c .before .before .before .count-entry2 .ensures))
+    omega (
+      arith,
+      l .inv .inside,
+      c .before .before .items-in2 .ensures,
+      begins-few _ _
+          (c .before .before .before .count-entry2 .ensures),
+    )
 
 loop-again-4 : tie.Need-loop-again-4 Inv-loop μ-loop
 loop-again-4 c =
@@ -248,7 +263,8 @@ loop-again-4 c =
     let l = around .before .loop in
     running-next (l .inv) _ (sym (around .next-of .ensures) ∙ over .enum-told2 .given .1)
     (last .before .before .before .put-row .ensures) _ _ _ _ (not-last _ _ (l .inv .inside) (last .if1 .left))
-    (listed-at _ _ (c .before .before .before .before .before .entry-place3 .ensures) refl (c .before .before .before .before .entry-at2 .ensures))
+    (listed-at _ _ (c .before .before .before .before .before .entry-place3 .ensures) refl
+    (c .before .before .before .before .entry-at2 .ensures))
     (record {
       count = c .before .before .before .count-entry2 .result;
       counts = c .before .before .before .count-entry2 .ensures;

@@ -115,7 +115,8 @@ module _
 place-of-within : (source word : ℕ) (ms : Rows) → placeOf source word ms ≤ length ms
 unfolding placeOf
 place-of-within source word [] = omega arith
-place-of-within source word (m ∷ ms) = go (not (isFree word) && hasNumber source m) (place-of-within source (word / 2) ms)
+place-of-within source word (m ∷ ms) =
+    go (not (isFree word) && hasNumber source m) (place-of-within source (word / 2) ms)
   where
     go : (b : Bool) {n : ℕ} → n ≤ length ms → cond b 0 (1 + n) ≤ suc (length ms)
     go true h = omega arith
@@ -128,7 +129,8 @@ place-within t source long =
 -- ---- the members' source numbers
 
 pub sources-set :
-    (ms : Members) (place : ℕ) (m : Member) → sourcesOf (set ms place m) ≡ set (sourcesOf ms) place (m .«record» .source)
+    (ms : Members) (place : ℕ) (m : Member)
+    → sourcesOf (set ms place m) ≡ set (sourcesOf ms) place (m .«record» .source)
 sources-set [] place m = refl
 sources-set (first ∷ ms) zero m = refl
 sources-set (first ∷ ms) (suc place) m =

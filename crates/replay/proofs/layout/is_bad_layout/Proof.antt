@@ -23,7 +23,8 @@ cast-n c = search needs
 returns-3 : tie.Need-returns-3
 returns-3 c =
     let count = c .before .read32 .ensures in
-    bad-count _ (c .before .before .before .if1 .left) (c .before .before .if2 .left) (omega (arith, count, c .if3 .taken))
+    bad-count _ (c .before .before .before .if1 .left) (c .before .before .if2 .left)
+    (omega (arith, count, c .if3 .taken))
 
 entry-place-requires : tie.Need-entry-place-requires
 entry-place-requires c κs = search needs
@@ -43,7 +44,8 @@ returns-5 c =
     let n = c .before .before .before in
     let count = n .before .read32 .ensures in
     let f = n .before .before .before .before .before .args .f .now in
-    bad-bodies f (n .before .before .before .if1 .left) (n .before .before .if2 .left) (omega (arith, count, n .if3 .left)) _
+    bad-bodies f (n .before .before .before .if1 .left) (n .before .before .if2 .left)
+    (omega (arith, count, n .if3 .left)) _
     (omega (arith, count, c .before .before .entry-place .ensures, c .before .if4 .left))
     (c .bodies-end .ensures ∙ ap (λ (k : ℕ). bodiesEnd f k (entryPlace 0) (entryPlace k)) count)
 

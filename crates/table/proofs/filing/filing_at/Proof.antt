@@ -1,5 +1,4 @@
 -- One law for each return.
-use native.Mathlib.Omega.{arith}
 use borrow.Author.Needs.{needs}
 use Rattle.table.proofs.Laws.Filing.{filed-at-known, filed-at-new}
 use Rattle.table.proofs.filing.filing_at.Statement.{statement}
