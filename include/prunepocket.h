@@ -101,7 +101,7 @@ struct prunepocket_answer {
  * where the line a=rtcp-rsize stands for it. Where it was agreed, the first packet
  * may be of any type, and 4 is never given. Every other check is made as where it
  * was not, in the same order: padding on the first packet is 3, even where it is
- * the only one.
+ * the only one. The datagrams of a recording are read as where it was not.
  */
 
 /*
