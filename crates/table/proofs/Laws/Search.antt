@@ -150,5 +150,5 @@ module _ (t : Table) (source : ℕ) (origin : Origin) where
           → sourcesOf (answered t leaving .table .members) ≡ sourcesOf (t .members)
       go true a b f = rw a refl
       go false a true f =
-          rw (a, f) (map-set-same (λ (m : Member). m .«record» .source) (t .members) (placeIn t source) _ nobody refl)
+          rw (a, f) (map-set-same (λ (m : Member). m .«record» .source) (t .members) _ _ nobody refl)
       go false a false f = rw (a, f) refl
