@@ -1,26 +1,36 @@
-// What a report does to a table, which is a change of one place at most. Every decision is made here and in
-// `Table::filing`, on plain values; a caller stores what is answered, and one of `filing_at` has searched for the
-// place.
+// What a report or a farewell does to a table, which is a change of one place at most. Every decision is made here, on
+// plain values, once the source number's place was searched for: first the call's number, then what it does. A caller
+// stores that where its table lies.
 use crate::tally::raised;
 use checks::report_number;
+use origin::Origin;
 use origin::same_origin;
 use places::lowest_free;
 use places::with_place;
+use places::without_place;
+use refusals::NO_MEMBER;
 use refusals::OTHER_ORIGIN;
 use register::Member;
 use register::Reading;
 use register::Record;
-ghost use Prim.Native.Nat.{_<_};
 ghost use mathlib.Core.Path.{_≡_};
-ghost use Rattle.table.specs.Filing.{memberAfter, knownFiling, newFiling, filingAt};
+ghost use Rattle.table.specs.Filing.{memberAfter, hasOtherOrigin, reportNumberAt, reportFiling};
+ghost use Rattle.table.specs.Filing.{farewellNumberAt, farewellFiling};
 
-// A report's number; the place and the member that stands there afterwards, which is the one from before where the
-// report changes nothing; and the word of places held.
+// A call's number; the place and the member that stands there afterwards, which is the one from before where the call
+// changes nothing; and the word of places held.
 pub struct Filing {
     pub number: u64,
     pub place: usize,
     pub held: u64,
     pub member: Member,
+}
+
+// Whether a member has another origin.
+fn is_elsewhere(there: Member, origin: Origin) -> bool
+    ensures { λ r. ⌜ r ≡ hasOtherOrigin there origin ⌝ }
+{
+    !same_origin(there.record.origin, origin)
 }
 
 // The member at a source number's place after a report that got this answer: 14 is tallied there.
@@ -41,8 +51,9 @@ fn member_after(there: Member, x: Record, number: u64) -> Member
     }
 }
 
-// A report of a number whose member stands at a place.
-pub(crate) fn known_filing(
+// The number that a report gets, by where its source number's member stands, or 64 where it has none, and who stands
+// there.
+pub fn report_number_at(
     group: u32,
     media: u32,
     rate: u32,
@@ -51,42 +62,38 @@ pub(crate) fn known_filing(
     there: Member,
     x: Record,
     at: Reading,
-) -> Filing
-    ensures { λ r. ⌜ r ≡ knownFiling (record { group = group; media = media; rate = rate }) held place there x at ⌝ }
+) -> u64
+    ensures { λ r. ⌜ r ≡ reportNumberAt (record { group = group; media = media; rate = rate }) held place there x at ⌝ }
 {
-    let elsewhere = !same_origin(there.record.origin, x.origin);
-    let number = report_number(group, media, rate, x, at, elsewhere, false);
-    Filing {
-        number,
-        place,
-        held,
-        member: member_after(there, x, number),
+    if place < 64 {
+        let elsewhere = is_elsewhere(there, x.origin);
+        return report_number(group, media, rate, x, at, elsewhere, false);
     }
+    let free = lowest_free(held);
+    report_number(group, media, rate, x, at, false, free == 64)
 }
 
-// A report of a number without a member. Refused, it leaves the first place with the member there.
-pub(crate) fn new_filing(
-    group: u32,
-    media: u32,
-    rate: u32,
-    held: u64,
-    first: Member,
-    x: Record,
-    at: Reading,
-) -> Filing
-    ensures { λ r. ⌜ (r ≡ newFiling (record { group = group; media = media; rate = rate }) held first x at)
-        × (r .place < 64) ⌝ }
+// What a report does that got this number, by the same place, and who stands there or else at the first place.
+pub fn report_filing(held: u64, place: usize, there: Member, x: Record, number: u64) -> Filing
+    ensures { λ r. ⌜ r ≡ reportFiling held place there x number ⌝ }
 {
-    let free = lowest_free(held) as usize;
-    let number = report_number(group, media, rate, x, at, false, free == 64);
+    if place < 64 {
+        return Filing {
+            number,
+            place,
+            held,
+            member: member_after(there, x, number),
+        };
+    }
     if number != 0 {
         return Filing {
             number,
             place: 0,
             held,
-            member: first,
+            member: there,
         };
     }
+    let free = lowest_free(held) as usize;
     let member = Member {
         record: x,
         tally: 0,
@@ -99,23 +106,44 @@ pub(crate) fn new_filing(
     }
 }
 
-// A report, by where its number's member stands, or 64 where it has none, and who stands there, or else at the first
-// place: for a caller that searches by itself.
-pub fn filing_at(
-    group: u32,
-    media: u32,
-    rate: u32,
-    held: u64,
-    place: usize,
-    there: Member,
-    x: Record,
-    at: Reading,
-) -> Filing
-    ensures { λ r. ⌜ (r ≡ filingAt (record { group = group; media = media; rate = rate }) held place there x at)
-        × (r .place < 64) ⌝ }
+// The number that a farewell gets, by its source number's place, or 64, and who stands there.
+pub fn farewell_number_at(place: usize, there: Member, origin: Origin) -> u64
+    ensures { λ r. ⌜ r ≡ farewellNumberAt place there origin ⌝ }
 {
-    if place < 64 {
-        return known_filing(group, media, rate, held, place, there, x, at);
+    if 64 <= place {
+        return NO_MEMBER;
     }
-    new_filing(group, media, rate, held, there, x, at)
+    if is_elsewhere(there, origin) {
+        return OTHER_ORIGIN;
+    }
+    0
+}
+
+// What a farewell does that got this number: a place is held no more, or 14 is tallied there.
+pub fn farewell_filing(held: u64, place: usize, there: Member, number: u64) -> Filing
+    ensures { λ r. ⌜ r ≡ farewellFiling held place there number ⌝ }
+{
+    if 64 <= place {
+        return Filing {
+            number,
+            place: 0,
+            held,
+            member: there,
+        };
+    }
+    let left = member_after(there, there.record, number);
+    if number != 0 {
+        return Filing {
+            number,
+            place,
+            held,
+            member: left,
+        };
+    }
+    Filing {
+        number: 0,
+        place,
+        held: without_place(held, place),
+        member: left,
+    }
 }

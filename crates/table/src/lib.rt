@@ -10,34 +10,30 @@ use choosing::marks_at;
 use empty::empty_table;
 use empty::free_place;
 use filing::Filing;
-pub use filing::filing_at;
-use filing::known_filing;
-use filing::new_filing;
+pub use filing::farewell_filing;
+pub use filing::farewell_number_at;
+pub use filing::report_filing;
+pub use filing::report_number_at;
 use idms::Item;
 use idms::Report;
 use origin::Origin;
 use places::count_held;
 use places::is_held;
-use places::without_place;
 use refusals::BAD_OPENING;
-use refusals::NO_MEMBER;
-use refusals::OTHER_ORIGIN;
 use register::Choice;
 use register::Member;
 use register::Reading;
 use register::Record;
 use register::ReportFields;
-use search::is_elsewhere;
 use search::is_held_by;
 use search::member_of;
 pub use search::place_among;
 use search::place_of;
-use tally::raised;
 ghost use Prim.Native.Nat.{_<_};
 ghost use mathlib.Core.Path.{_≡_};
 ghost use Rattle.register.specs.Register.{Call};
 ghost use Rattle.table.specs.Members.{memberCount, placeAt};
-ghost use Rattle.table.specs.Calls.{opened, withRaised, answered};
+ghost use Rattle.table.specs.Calls.{opened, answered};
 ghost use Rattle.table.specs.Filing.{filingOf};
 ghost use Rattle.table.specs.Choose.{chosenOf};
 ghost use Rattle.table.specs.Intake.{recordOf, taken};
@@ -134,17 +130,6 @@ impl Table {
         }
     }
 
-    // A refusal with 14, tallied at the place of the member that holds the number.
-    fn tally_refusal(self, place: usize) -> Table
-        requires { ⌜ place < 64 ⌝ }
-        ensures { λ r. ⌜ r ≡ withRaised self place ⌝ }
-    {
-        let mut next = self;
-        let there = next.members[place];
-        next.members[place].tally = raised(there.tally);
-        next
-    }
-
     // What a report does, at the sender's reading. The search is a loop of its own here: handed on by value, the
     // members would be copied.
     pub fn filing(self, x: Record, at: Reading) -> Filing
@@ -154,29 +139,24 @@ impl Table {
         let mut i: usize = 0;
         while i < 64 {
             if is_held_by(word, self.members[i].record.source, x.source) {
-                return known_filing(
-                    self.group,
-                    self.media,
-                    self.rate,
-                    self.held,
-                    i,
-                    self.members[i],
-                    x,
-                    at,
-                );
+                break;
             }
             word /= 2;
             i += 1;
         }
-        new_filing(
+        // The first place where no member was found.
+        let there = self.members[i % 64];
+        let number = report_number_at(
             self.group,
             self.media,
             self.rate,
             self.held,
-            self.members[0],
+            i,
+            there,
             x,
             at,
-        )
+        );
+        report_filing(self.held, i, there, x, number)
     }
 
     // A report under its origin, at the sender's reading.
@@ -201,24 +181,17 @@ impl Table {
     {
         let held = self.held;
         let members = self.members;
-        let place = place_of(held, members, source);
-        if 64 <= place {
-            return Answered {
-                number: NO_MEMBER,
-                table: self,
-            };
-        }
-        if is_elsewhere(members, place, origin) {
-            let tallied = self.tally_refusal(place);
-            return Answered {
-                number: OTHER_ORIGIN,
-                table: tallied,
-            };
-        }
+        let found = place_of(held, members, source);
+        let there = self.members[found % 64];
+        let number = farewell_number_at(found, there, origin);
+        let f = farewell_filing(held, found, there, number);
+        let place = f.place;
+        let member = f.member;
         let mut next = self;
-        next.held = without_place(held, place);
+        next.members[place] = member;
+        next.held = f.held;
         Answered {
-            number: 0,
+            number,
             table: next,
         }
     }

@@ -1,6 +1,4 @@
 // Where a number's member stands, and what is at a place.
-use origin::Origin;
-use origin::same_origin;
 use register::Member;
 ghost use mathlib.Core.Path.{_≡_};
 ghost use mathlib.Core.Bool.{not, _&&_};
@@ -11,7 +9,6 @@ ghost use Rattle.places.specs.Places.{isFree};
 ghost use Rattle.register.specs.Tallies.{recordsOf};
 ghost use Rattle.choosing.specs.Marked.{nobody};
 ghost use Rattle.table.specs.Members.{placeOf, placeAmong};
-ghost use Rattle.table.specs.Calls.{elsewhereAt};
 
 // Whether the word's first place is held, by a member of this number.
 pub(crate) fn is_held_by(word: u64, number: u32, source: u32) -> bool
@@ -36,23 +33,24 @@ pub(crate) fn place_of(held: u64, members: [Member; 64], source: u32) -> usize
         word /= 2;
         i += 1;
     }
-    64
+    i
 }
 
-// The same among the members' source numbers alone, which are fewer bytes to hand on.
-pub fn place_among(held: u64, sources: [u32; 64], source: u32) -> usize
-    ensures { λ r. ⌜ r ≡ placeAmong source held sources ⌝ }
+// The same among the members' source numbers alone, for a caller that keeps these beside its table: a number's place, or
+// behind the last.
+pub fn place_among(held: u64, sources: &[u32], source: u32) -> usize
+    ensures { λ r. ⌜ r ≡ placeAmong source held (now (sources .entry)) ⌝ }
 {
     let mut word = held;
     let mut i: usize = 0;
-    while i < 64 {
+    while i < sources.len() {
         if is_held_by(word, sources[i], source) {
             return i;
         }
         word /= 2;
         i += 1;
     }
-    64
+    i
 }
 
 // What stands at a place.
@@ -61,15 +59,4 @@ pub(crate) fn member_of(members: [Member; 64], place: usize) -> Member
     ensures { λ r. ⌜ r ≡ getD members place nobody ⌝ }
 {
     members[place]
-}
-
-// Whether a member stands at a place, with another origin.
-pub(crate) fn is_elsewhere(members: [Member; 64], place: usize, origin: Origin) -> bool
-    ensures { λ r. ⌜ r ≡ elsewhereAt (recordsOf members) place origin ⌝ }
-{
-    if 64 <= place {
-        return false;
-    }
-    let there = members[place];
-    !same_origin(there.record.origin, origin)
 }

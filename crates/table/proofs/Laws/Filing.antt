@@ -7,13 +7,14 @@ use lib.Dec.{ltb, eqb}
 use lib.ListN.{length, getD}
 use native.Mathlib.Omega.{arith}
 use borrow.Author.Tests.{eqb-true, eqb-false, ne-eqb, ltb-true, ltb-false, lt-ltb, le-ltb}
-use Rattle.refusals.specs.Refusals.{otherOrigin}
-use Rattle.places.specs.Places.{lowestFree, withPlace}
+use Rattle.origin.specs.declared.Origin.{Origin}
+use Rattle.refusals.specs.Refusals.{otherOrigin, noMember}
+use Rattle.places.specs.Places.{lowestFree, withPlace, withoutPlace}
 use Rattle.places.proofs.Laws.Free.{lowest-free-within}
 use Rattle.register.specs.declared.Record.{Record}
 use Rattle.register.specs.declared.Member.{Member}
 use Rattle.register.specs.declared.Reading.{Reading}
-use Rattle.register.specs.Register.{Opening, Call, reportChecks}
+use Rattle.register.specs.Register.{Opening, Call, reportChecks, farewellChecks}
 use Rattle.register.specs.Tallies.{Members, raised}
 use Rattle.register.proofs.Stands.{accepted-room}
 use Rattle.choosing.specs.Marked.{nobody}
@@ -22,13 +23,15 @@ use Rattle.table.specs.declared.Table.{Table}
 use Rattle.table.specs.declared.Answered.{Answered}
 use Rattle.table.specs.declared.filing.Filing.{Filing}
 use Rattle.table.specs.Members.{openingOf, placeIn}
-use Rattle.table.specs.Calls.{isMember, numberOf, answered}
+use Rattle.table.specs.Calls.{isMember, isElsewhere, numberOf, withHeld, answered}
 use Rattle.table.specs.Filing.{memberAfter, hasOtherOrigin, knownNumber, knownFiling, isFull}
-use Rattle.table.specs.Filing.{newNumber, newFiling, filingOf, filingAt, withFiling}
+use Rattle.table.specs.Filing.{newNumber, newFiling, reportNumberAt, reportFiling, farewellNumberAt}
+use Rattle.table.specs.Filing.{farewellFiling, memberThere, filingOf, withFiling}
 use Rattle.table.proofs.Laws.Members.{set-same}
 use Rattle.table.proofs.Laws.Search.{place-within}
 use Rattle.table.proofs.Laws.Cases.{call-refused, call-accepted, report-elsewhere, report-number-there}
-use Rattle.table.proofs.Laws.Cases.{report-tallied, filed-again, filed-anew}
+use Rattle.table.proofs.Laws.Cases.{report-tallied, filed-again, filed-anew, farewell-stranger}
+use Rattle.table.proofs.Laws.Cases.{elsewhere-there, farewell-elsewhere, farewell-taken}
 
 -- ---- the member at a number's place
 
@@ -44,78 +47,108 @@ module _ (there : Member) (x : Record) (number : ℕ) where
   pub member-filed : number ≡ 0 → record { «record» = x; tally = there .tally } ≡ memberAfter there x number
   member-filed e = rw e refl
 
+-- ---- a report's number
+
+module _ (o : Opening) (held place : ℕ) (there : Member) (x : Record) (at : Reading) (number : ℕ) where
+  pub number-known :
+      (elsewhere : Bool) → place < 64 → elsewhere ≡ hasOtherOrigin there (x .origin) →
+      number ≡ reportChecks o x at elsewhere false →
+      number ≡ reportNumberAt o held place there x at
+  number-known elsewhere h e f = rw (lt-ltb place 64 h) (rw e at f)
+
+  pub number-new :
+      (free : ℕ) (full : Bool) → 64 ≤ place → free ≡ lowestFree 64 held → full ≡ eqb free 64 →
+      number ≡ reportChecks o x at false full →
+      number ≡ reportNumberAt o held place there x at
+  number-new free full h e f g = rw (le-ltb place 64 h) (rw (f, e) at g)
+
 -- ---- a filing
 
-module _ (o : Opening) (held : ℕ) (x : Record) (at : Reading) (number : ℕ) where
-  pub known-filed :
-      (place : ℕ) (there member : Member) (elsewhere : Bool) → elsewhere ≡ hasOtherOrigin there x →
-      number ≡ reportChecks o x at elsewhere false →
-      member ≡ memberAfter there x number →
-      record { number = number; place = place; held = held; member = member } ≡ knownFiling o held place there x at
-  known-filed place there member elsewhere e f g =
-      let n : number ≡ knownNumber o there x at = rw e at f in
-      rw (g, n) refl
+module _ (held place : ℕ) (there : Member) (x : Record) (number : ℕ) where
+  pub filed-known :
+      (member : Member) → place < 64 → member ≡ memberAfter there x number →
+      record { number = number; place = place; held = held; member = member } ≡ reportFiling held place there x number
+  filed-known member h e = rw (lt-ltb place 64 h, e) refl
 
-  module _
-      (first : Member) (free : ℕ) (full : Bool)
-      (e : free ≡ lowestFree 64 held) (f : full ≡ eqb free 64) (g : number ≡ reportChecks o x at false full) where
-    is-number : number ≡ newNumber o held x at
-    is-number = rw (f, e) at g
+  pub filed-refused :
+      64 ≤ place → (number ≡ 0 → ⊥) →
+      record { number = number; place = 0; held = held; member = there } ≡ reportFiling held place there x number
+  filed-refused h k = rw (le-ltb place 64 h, ne-eqb number 0 k) refl
 
-    pub new-refused :
+  pub filed-new :
+      (free word : ℕ) (member : Member) → 64 ≤ place → number ≡ 0 → free ≡ lowestFree 64 held →
+      word ≡ withPlace held free →
+      member ≡ record { «record» = x; tally = 0 } →
+      record { number = 0; place = free; held = word; member = member } ≡ reportFiling held place there x number
+  filed-new free word member h n e k m = rw (le-ltb place 64 h, n, m, k, e) refl
+
+-- ---- a farewell
+
+module _ (place : ℕ) (there : Member) (origin : Origin) where
+  pub farewell-number-none : 64 ≤ place → noMember ≡ farewellNumberAt place there origin
+  unfolding farewellChecks
+  farewell-number-none h = rw (le-ltb place 64 h) refl
+
+  module _ (b : Bool) (h : place < 64) (e : b ≡ hasOtherOrigin there origin) where
+    pub farewell-number-other : b ≡ true → otherOrigin ≡ farewellNumberAt place there origin
+    unfolding farewellChecks
+    farewell-number-other f =
+        let other : hasOtherOrigin there origin ≡ true = sym e ∙ f in
+        rw (lt-ltb place 64 h, other) refl
+
+    pub farewell-number-same : b ≡ false → 0 ≡ farewellNumberAt place there origin
+    unfolding farewellChecks
+    farewell-number-same f =
+        let same : hasOtherOrigin there origin ≡ false = sym e ∙ f in
+        rw (lt-ltb place 64 h, same) refl
+
+module _ (held place : ℕ) (there : Member) (number : ℕ) where
+  pub farewell-none :
+      64 ≤ place →
+      record { number = number; place = 0; held = held; member = there } ≡ farewellFiling held place there number
+  farewell-none h = rw (le-ltb place 64 h) refl
+
+  module _ (left : Member) (h : place < 64) (e : left ≡ memberAfter there (there .«record») number) where
+    pub farewell-refused :
         (number ≡ 0 → ⊥) →
-        record { number = number; place = 0; held = held; member = first } ≡ newFiling o held first x at
-    new-refused h =
-        let n : eqb (newNumber o held x at) 0 ≡ false = ne-eqb _ 0 (λ z. h (is-number ∙ z)) in
-        rw (n, is-number) refl
+        record { number = number; place = place; held = held; member = left } ≡ farewellFiling held place there number
+    farewell-refused k = rw (e, lt-ltb place 64 h, ne-eqb number 0 k) refl
 
-    pub new-filed :
-        (word : ℕ) (member : Member) → number ≡ 0 → word ≡ withPlace held free →
-        member ≡ record { «record» = x; tally = 0 } →
-        record { number = 0; place = free; held = word; member = member } ≡ newFiling o held first x at
-    new-filed word member h k m =
-        let n : newNumber o held x at ≡ 0 = sym is-number ∙ h in
-        rw (n, m, k, e) refl
+    pub farewell-accepted :
+        (word : ℕ) → number ≡ 0 → word ≡ withoutPlace held place →
+        record { number = 0; place = place; held = word; member = left } ≡ farewellFiling held place there number
+    farewell-accepted word n w = rw (lt-ltb place 64 h, w, e, n) refl
 
-    pub free-within : number ≡ 0 → free < 64
-    free-within h =
-        let room : eqb free 64 ≡ false = sym f ∙ accepted-room o x at false full (sym g ∙ h) in
-        omega (arith, eqb-false free 64 room, lowest-free-within 64 held, e)
+-- ---- one of the 64 places: accepted, a new member finds room
 
--- ---- what the search found
-
-module _ (t : Table) (x : Record) (at : Reading) (f : Filing) where
-  pub found-known :
-      (place : ℕ) → place ≡ placeIn t (x .source) → place < 64 →
-      f ≡ knownFiling (openingOf t) (t .held) place (getD (t .members) place nobody) x at →
-      (f ≡ filingOf t x at) × (f .place < 64)
-  unfolding filingOf
-  found-known place e h g =
-      let known : isMember t (x .source) ≡ true = lt-ltb (placeIn t (x .source)) 64 (omega (arith, e, h)) in
-      let same : f .place ≡ place = ap (λ (h : Filing). h .place) g in
-      (rw known (rw e at g), omega (arith, h, same))
-
-  pub found-none :
-      64 ≤ placeIn t (x .source) → f ≡ newFiling (openingOf t) (t .held) (getD (t .members) 0 nobody) x at →
-      f ≡ filingOf t x at
-  unfolding filingOf
-  found-none h g =
-      let new : isMember t (x .source) ≡ false = le-ltb (placeIn t (x .source)) 64 h in
-      rw new g
+pub filing-within :
+    (o : Opening) (held place : ℕ) (there : Member) (x : Record) (at : Reading) (number : ℕ) →
+    number ≡ reportNumberAt o held place there x at → reportFiling held place there x number .place < 64
+filing-within o held place there x at number e = go (ltb place 64) refl (eqb number 0) refl
+  where
+    go :
+        (a : Bool) → ltb place 64 ≡ a → (b : Bool) → eqb number 0 ≡ b →
+        reportFiling held place there x number .place < 64
+    go true a b f = rw a (ltb-true place 64 a)
+    go false a false f = rw (a, f) (omega arith)
+    go false a true f =
+        let none : newNumber o held x at ≡ 0 = sym (rw a at e) ∙ eqb-true number 0 f in
+        let room : eqb (lowestFree 64 held) 64 ≡ false = accepted-room o x at false (isFull held) none in
+        rw (a, f) (omega (arith, eqb-false (lowestFree 64 held) 64 room, lowest-free-within 64 held))
 
 -- ---- stored
+
+-- a number, and the table with other members
+abbrev kept : Table → ℕ → Members → Answered
+kept t number ms =
+    record {
+      number = number;
+      table = record { group = t .group; media = t .media; rate = t .rate; held = t .held; members = ms };
+    }
 
 module _ (t : Table) (x : Record) (at : Reading) where
   abbrev stores : Filing → Type 0
   stores f = _≡_ {A = Answered} (record { number = f .number; table = withFiling t f }) (answered t (Call.report x at))
-
-  -- the table with other members
-  abbrev kept : ℕ → Members → Answered
-  kept number ms =
-      record {
-        number = number;
-        table = record { group = t .group; media = t .media; rate = t .rate; held = t .held; members = ms };
-      }
 
   abbrev place : ℕ
   place = placeIn t (x .source)
@@ -131,12 +164,12 @@ module _ (t : Table) (x : Record) (at : Reading) where
     known-number : Known ≡ numberOf t (Call.report x at)
     known-number =
         let below : ltb place 64 ≡ true = lt-ltb place 64 known in
-        report-number-there t x at place (hasOtherOrigin there x) false _ refl
+        report-number-there t x at place (hasOtherOrigin there (x .origin)) false _ refl
         (rw (below, row-at (t .members) place) refl) (rw below refl) refl
 
     stored-known :
         (tallied accepted : Bool) → eqb Known otherOrigin ≡ tallied → eqb Known 0 ≡ accepted →
-        stores (knownFiling (openingOf t) (t .held) place there x at)
+        stores (knownFiling (t .held) place there x Known)
     stored-known true accepted e f =
         let given : Known ≡ otherOrigin = eqb-true Known otherOrigin e in
         rw e (report-tallied t x at place Known _ known-number given refl refl)
@@ -146,7 +179,7 @@ module _ (t : Table) (x : Record) (at : Reading) where
         (call-accepted t _ (Call.report x at) (sym known-number ∙ none) (filed-again t x place refl _ known refl))
     stored-known false false e f =
         rw (e, f)
-        (ap (kept Known) (set-same (t .members) place nobody)
+        (ap (kept t Known) (set-same (t .members) place nobody)
         ∙ call-refused t (Call.report x at) Known known-number (eqb-false Known 0 f) (eqb-false Known otherOrigin e))
 
   -- no member has the number
@@ -167,7 +200,7 @@ module _ (t : Table) (x : Record) (at : Reading) where
 
     stored-new :
         (accepted : Bool) → eqb New 0 ≡ accepted →
-        stores (newFiling (openingOf t) (t .held) (getD (t .members) 0 nobody) x at)
+        stores (newFiling (t .held) (getD (t .members) 0 nobody) x New)
     stored-new true e =
         let none : New ≡ 0 = eqb-true New 0 e in
         rw e
@@ -175,7 +208,7 @@ module _ (t : Table) (x : Record) (at : Reading) where
         (filed-anew t x place refl _ (lowestFree 64 (t .held)) _ new refl refl refl))
     stored-new false e =
         rw e
-        (ap (kept New) (set-same (t .members) 0 nobody)
+        (ap (kept t New) (set-same (t .members) 0 nobody)
         ∙ call-refused t (Call.report x at) New new-number (eqb-false New 0 e) not-tallied)
 
   pub filing-answers : (f : Filing) → f ≡ filingOf t x at → stores f
@@ -184,42 +217,106 @@ module _ (t : Table) (x : Record) (at : Reading) where
     where
       go : (b : Bool) → isMember t (x .source) ≡ b → stores f
       go true k =
-          let g : f ≡ knownFiling (openingOf t) (t .held) place there x at = rw k at e in
+          let g : f ≡ knownFiling (t .held) place there x (knownNumber (openingOf t) there x at) = rw k at e in
           rw g (stored-known (ltb-true place 64 k) _ _ refl refl)
       go false k =
-          let g : f ≡ newFiling (openingOf t) (t .held) (getD (t .members) 0 nobody) x at = rw k at e in
+          let g : f ≡ newFiling (t .held) (getD (t .members) 0 nobody) x (newNumber (openingOf t) (t .held) x at) =
+          rw k at e in
           rw g (stored-new (ltb-false place 64 k) _ refl)
 
--- ---- a filing by a place that was searched for
+-- ---- by a place that was searched for
 
-module _ (o : Opening) (held place : ℕ) (there : Member) (x : Record) (at : Reading) (f : Filing) where
-  pub filed-at-known :
-      place < 64 → f ≡ knownFiling o held place there x at
-      → (f ≡ filingAt o held place there x at) × (f .place < 64)
-  filed-at-known h e =
-      let same : f .place ≡ place = ap (λ (g : Filing). g .place) e in
-      (rw (lt-ltb place 64 h) e, omega (arith, same, h))
+module _
+    (t : Table) (source place : ℕ) (there : Member) (long : length (t .members) ≡ 64) (e : place ≡ placeIn t source)
+    (m : there ≡ getD (t .members) (place % 64) nobody) where
+  -- no member has the number, and the first place was looked at
+  first-there : 64 ≤ place → there ≡ getD (t .members) 0 nobody
+  first-there h =
+      let first : place % 64 ≡ 0 = omega (arith, e, h, place-within t source long) in
+      m ∙ ap (λ (k : ℕ). getD (t .members) k nobody) first
 
-  pub filed-at-new :
-      64 ≤ place → f ≡ newFiling o held there x at → f .place < 64
-      → (f ≡ filingAt o held place there x at) × (f .place < 64)
-  filed-at-new h e less = (rw (le-ltb place 64 h) e, less)
+  own-there : place < 64 → there ≡ getD (t .members) place nobody
+  own-there h =
+      let own : place % 64 ≡ place = omega (arith, h) in
+      m ∙ ap (λ (k : ℕ). getD (t .members) k nobody) own
 
--- at the number's place, with who stands there, it is the table's filing
-pub filing-searched :
-    (t : Table) (x : Record) (at : Reading) (place slot : ℕ) (there : Member) → length (t .members) ≡ 64
-    → place ≡ placeIn t (x .source) → slot ≡ place % 64 → there ≡ getD (t .members) slot nobody
-    → filingAt (openingOf t) (t .held) place there x at ≡ filingOf t x at
-unfolding filingOf
-filing-searched t x at place slot there long e s m = go (ltb place 64) refl
-  where
-    go :
-        (b : Bool) → ltb place 64 ≡ b
-        → filingAt (openingOf t) (t .held) place there x at ≡ filingOf t x at
-    go true b =
-        let less : place < 64 = ltb-true place 64 b in
-        let here : slot ≡ place = omega (arith, s, less) in
-        rw (b, m, here, e, rw e at b) refl
-    go false b =
-        let first : slot ≡ 0 = omega (arith, s, e, ltb-false place 64 b, place-within t (x .source) long) in
-        rw (b, m, first, rw e at b) refl
+  is-there : there ≡ memberThere t place
+  is-there = go (ltb place 64) refl
+    where
+      go : (b : Bool) → ltb place 64 ≡ b → there ≡ memberThere t place
+      go true b = rw b (own-there (ltb-true place 64 b))
+      go false b = rw b (first-there (ltb-false place 64 b))
+
+  -- what a farewell does, once stored, is the call
+  module _
+      (origin : Origin) (number : ℕ) (f : Filing) (n : number ≡ farewellNumberAt place there origin)
+      (g : f ≡ farewellFiling (t .held) place there number) where
+    abbrev Stored : Type 0
+    Stored =
+        _≡_ {A = Answered} (record { number = number; table = withFiling t f })
+        (answered t (Call.farewell source origin))
+
+    without-member : 64 ≤ place → Stored × (f .place < 64)
+    unfolding farewellChecks
+    without-member h =
+        let none : ltb place 64 ≡ false = le-ltb place 64 h in
+        let is : number ≡ noMember = rw none at n in
+        let does : f ≡ record { number = number; place = 0; held = t .held; member = there } = rw none at g in (
+          rw (does, is, first-there h)
+              (ap (kept t noMember) (set-same (t .members) 0 nobody)
+              ∙ farewell-stranger t source place origin e h),
+          rw does (omega arith),
+        )
+
+    module _ (h : place < 64) where
+      below : ltb place 64 ≡ true
+      below = lt-ltb place 64 h
+
+      is-elsewhere : hasOtherOrigin there origin ≡ isElsewhere t source origin
+      is-elsewhere =
+          elsewhere-there t source place e origin _
+          (ap (λ (mine : Member). hasOtherOrigin mine origin) (own-there h)
+          ∙ rw (below, row-at (t .members) place) refl)
+
+      with-member : (b : Bool) → hasOtherOrigin there origin ≡ b → Stored × (f .place < 64)
+      unfolding farewellChecks
+      with-member true o =
+          let is : number ≡ otherOrigin = rw (below, o) at n in
+          let tallied : Member = record { «record» = there .«record»; tally = raised (there .tally) } in
+          let does : f ≡ record { number = otherOrigin; place = place; held = t .held; member = tallied } =
+          rw (below, is) at g in (
+            rw (does, is, own-there h)
+                (farewell-elsewhere t source place origin e _ h (sym is-elsewhere ∙ o) refl),
+            rw does h,
+          )
+      with-member false o =
+          let is : number ≡ 0 = rw (below, o) at n in
+          let word = withoutPlace (t .held) place in
+          let does : f ≡ record { number = 0; place = place; held = word; member = there } = rw (below, is) at g in (
+            rw (does, is, own-there h)
+                (ap (kept (withHeld t word) 0) (set-same (t .members) place nobody)
+                ∙ farewell-taken t source place origin e word h (sym is-elsewhere ∙ o) refl),
+            rw does h,
+          )
+
+    pub farewell-stored : Stored × (f .place < 64)
+    farewell-stored = go (ltb place 64) refl
+      where
+        go : (b : Bool) → ltb place 64 ≡ b → Stored × (f .place < 64)
+        go true b = with-member (ltb-true place 64 b) (hasOtherOrigin there origin) refl
+        go false b = without-member (ltb-false place 64 b)
+
+-- what a report does is the table's filing
+module _
+    (t : Table) (x : Record) (at : Reading) (place : ℕ) (there : Member) (number : ℕ) (f : Filing)
+    (long : length (t .members) ≡ 64) (e : place ≡ placeIn t (x .source))
+    (m : there ≡ getD (t .members) (place % 64) nobody)
+    (n : number ≡ reportNumberAt (openingOf t) (t .held) place there x at)
+    (g : f ≡ reportFiling (t .held) place there x number) where
+  pub filing-searched : (f ≡ filingOf t x at) × (f .place < 64)
+  unfolding filingOf
+  filing-searched =
+      let same : f .place ≡ reportFiling (t .held) place there x number .place = ap (λ (h : Filing). h .place) g in (
+        g ∙ rw (n, is-there t (x .source) place there long e m, e) refl,
+        omega (arith, same, filing-within (openingOf t) (t .held) place there x at number n),
+      )

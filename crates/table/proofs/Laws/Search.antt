@@ -42,34 +42,35 @@ place-end :
 unfolding placeAmong
 place-end source word numbers i h = rw (drop-of-length-le numbers h) refl
 
--- ---- along 64 source numbers
+-- ---- along source numbers
 
 -- what the search keeps: the places passed and the place among the rest make up the place
 abbrev pub SearchingAmong : ℕ → ℕ → List ℕ → ℕ → ℕ → Type 0
 SearchingAmong source held numbers word i =
-    (i ≤ 64) × (i + placeAmong source word (drop i numbers) ≡ placeAmong source held numbers)
+    (i ≤ length numbers) × (i + placeAmong source word (drop i numbers) ≡ placeAmong source held numbers)
 
 module _
-    (source held : ℕ) (numbers : List ℕ) (long : length numbers ≡ 64) (word i : ℕ)
-    (inv : SearchingAmong source held numbers word i) where
+    (source held : ℕ) (numbers : List ℕ) (word i : ℕ) (inv : SearchingAmong source held numbers word i) where
   -- the number is found, or this place is passed
-  pub among-found : i < 64 → isHeldBy word (getD numbers i 0) source ≡ true → i ≡ placeAmong source held numbers
+  pub among-found :
+      i < length numbers → isHeldBy word (getD numbers i 0) source ≡ true → i ≡ placeAmong source held numbers
   among-found h e =
-      let here : _ = place-here source word numbers i (omega (arith, h, long)) e in
+      let here : _ = place-here source word numbers i h e in
       omega (arith, here, inv .1)
 
   pub among-next :
-      i < 64 → isHeldBy word (getD numbers i 0) source ≡ false → SearchingAmong source held numbers (word / 2) (i + 1)
+      i < length numbers → isHeldBy word (getD numbers i 0) source ≡ false →
+      SearchingAmong source held numbers (word / 2) (i + 1)
   among-next h e =
-      let beyond : _ = place-beyond source word numbers i (omega (arith, h, long)) e in
+      let beyond : _ = place-beyond source word numbers i h e in
       let next : _ = ap (λ (k : ℕ). placeAmong source (word / 2) (drop k numbers)) (add-one i) in
       (omega arith, omega (arith, beyond, next, inv .1))
 
   -- no place is left
-  pub among-none : 64 ≤ i → placeAmong source held numbers ≡ 64
+  pub among-none : length numbers ≤ i → i ≡ placeAmong source held numbers
   among-none h =
-      let none : _ = place-end source word numbers i (omega (arith, h, long)) in
-      omega (arith, none, h, inv .0, inv .1)
+      let none : _ = place-end source word numbers i h in
+      omega (arith, none, inv .1)
 
 -- ---- along the 64 places of a table
 
@@ -100,16 +101,17 @@ module _
   pub search-found :
       i < 64 → isHeldBy word (getD ms i nobody .«record» .source) source ≡ true → i ≡ placeOf source held (recordsOf ms)
   search-found h e =
-      among-found source held (sourcesOf ms) long-too word i inv h (at-place e) ∙ place-among source held ms
+      among-found source held (sourcesOf ms) word i inv (omega (arith, h, long-too)) (at-place e)
+      ∙ place-among source held ms
 
   pub search-next :
       i < 64 → isHeldBy word (getD ms i nobody .«record» .source) source ≡ false →
       Searching source held ms (word / 2) (i + 1)
-  search-next h e = among-next source held (sourcesOf ms) long-too word i inv h (at-place e)
+  search-next h e = among-next source held (sourcesOf ms) word i inv (omega (arith, h, long-too)) (at-place e)
 
-  pub search-none : 64 ≤ i → placeOf source held (recordsOf ms) ≡ 64
+  pub search-none : 64 ≤ i → i ≡ placeOf source held (recordsOf ms)
   search-none h =
-      sym (place-among source held ms) ∙ among-none source held (sourcesOf ms) long-too word i inv h
+      among-none source held (sourcesOf ms) word i inv (omega (arith, h, long-too)) ∙ place-among source held ms
 
 -- where no member has the number, the place is behind the last
 place-of-within : (source word : ℕ) (ms : Rows) → placeOf source word ms ≤ length ms

@@ -48,7 +48,7 @@ loop-again c =
 returns-2 : tie.Need-returns-2 Inv-loop μ-loop
 returns-2 c =
     let start = c .before .before in
-    sym (search-none _ _ (start .args .t2) (omega (arith, start .good)) _ _ (c .before .loop .inv) (omega arith))
+    search-none _ _ (start .args .t2) (omega (arith, start .good)) _ _ (c .before .loop .inv) (omega arith)
 
 pub place-of-spec : {M : Type 1} → statement M
 place-of-spec =
