@@ -7,7 +7,7 @@ use lib.ListN.{take, drop}
 use Rattle.datagram.specs.declared.Count.{Count}
 use Rattle.rtcp.specs.declared.cursor.Cursor.{Cursor}
 use Rattle.rtcp.specs.declared.cursor.Step.{Step}
-use Rattle.rtcp.specs.Cursor.{nextOf}
+use Rattle.rtcp.specs.Cursor.{nextOf, start}
 use Rattle.replay.specs.declared.layout.Listed.{Listed}
 use Rattle.replay.specs.declared.steps.Row.{Row}
 use Rattle.replay.specs.Recording.{entryReading, entryOrigin, bodyLength}
@@ -23,6 +23,11 @@ abbrev pub datagramOf : List ℕ → Listed → List ℕ
 datagramOf f entry = take (entry .end - entry .body) (drop (entry .body) f)
 
 -- ---- its items
+
+-- where the one behind a step starts; behind an end, which is that of the entry before, the first of all
+abbrev pub cursorBehind : Step → Cursor
+cursorBehind (Step.Item x next) = next
+cursorBehind Step.End = start
 
 -- the next one, where so many are left behind the cursor
 unfoldable pub nextIn : List ℕ → ℕ → Cursor → Step

@@ -13,7 +13,6 @@ use refusals::NONE_COUNTED;
 use refusals::SHORT_BUFFER;
 use register::Choice;
 use rtcp::Step;
-use rtcp::first_cursor;
 use steps::count_entry;
 use steps::first_row;
 use steps::items_in;
@@ -21,9 +20,12 @@ use steps::next_of;
 use steps::put_row;
 use steps::row_after;
 use table::Table;
-use table::filing_at;
+use table::farewell_filing;
+use table::farewell_number_at;
 use table::place_among;
 use table::record_of;
+use table::report_filing;
+use table::report_number_at;
 ghost use mathlib.Core.Path.{_≡_};
 ghost use mathlib.Core.Bool.{false};
 ghost use mathlib.Core.List.{_++_};
@@ -59,23 +61,22 @@ fn run_entries(t: Table, f: &[u8], n: usize, rows: &mut [u64]) -> Choice
     let first = count_entry(f, entry);
     let mut left = items_in(first);
     let mut row = first_row(first);
-    let mut cursor = first_cursor();
+    let mut step = Step::End;
     loop {
-        match next_of(f, entry, left, cursor) {
-            Step::Item(x, next) => {
+        step = next_of(f, entry, left, step);
+        match step {
+            Step::Item(x, _) => {
                 let item = x.item;
                 let origin = entry.origin;
                 let at = entry.at;
-                cursor = next;
                 left -= 1;
                 match item {
                     Item::Report(report) => {
                         let record = record_of(report, origin);
-                        let found = place_among(table.held, sources, record.source);
-                        // Where no member was found this is the first place, as `filing_at` asks.
-                        let slot = found % 64;
-                        let there = table.members[slot];
-                        let filing = filing_at(
+                        let found = place_among(table.held, &sources, record.source);
+                        // The first place where no member was found, as the filings ask.
+                        let there = table.members[found % 64];
+                        let number = report_number_at(
                             table.group,
                             table.media,
                             table.rate,
@@ -85,17 +86,24 @@ fn run_entries(t: Table, f: &[u8], n: usize, rows: &mut [u64]) -> Choice
                             record,
                             at,
                         );
+                        let filing = report_filing(table.held, found, there, record, number);
                         let place = filing.place;
                         let member = filing.member;
                         sources[place] = member.record.source;
                         table.members[place] = member;
                         table.held = filing.held;
-                        row = row_after(row, filing.number);
+                        row = row_after(row, number);
                     }
                     Item::Farewell(source) => {
-                        let answered = table.farewell(source, origin);
-                        table = answered.table;
-                        row = row_after(row, answered.number);
+                        let found = place_among(table.held, &sources, source);
+                        let there = table.members[found % 64];
+                        let number = farewell_number_at(found, there, origin);
+                        let filing = farewell_filing(table.held, found, there, number);
+                        let place = filing.place;
+                        let member = filing.member;
+                        table.members[place] = member;
+                        table.held = filing.held;
+                        row = row_after(row, number);
                     }
                     Item::Settings(_) => {}
                 }
@@ -112,7 +120,6 @@ fn run_entries(t: Table, f: &[u8], n: usize, rows: &mut [u64]) -> Choice
                 let count = count_entry(f, entry);
                 left = items_in(count);
                 row = first_row(count);
-                cursor = first_cursor();
             }
         }
     }

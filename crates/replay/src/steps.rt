@@ -1,9 +1,9 @@
 // An entry's datagram, item by item, and the entry's row as far as its items were taken.
 use crate::layout::Listed;
 use rtcp::Count;
-use rtcp::Cursor;
 use rtcp::Step;
 use rtcp::count_items;
+use rtcp::first_cursor;
 use rtcp::next_item;
 ghost use mathlib.Core.Path.{_≡_};
 ghost use Prim.Native.Nat.{_+_, _≤_, _<_};
@@ -11,7 +11,7 @@ ghost use lib.ListN.{length};
 ghost use lib.Seq.{sets};
 ghost use mathlib.Core.Bool.{false};
 ghost use Rattle.datagram.specs.Answers.{itemCount};
-ghost use Rattle.replay.specs.Steps.{datagramOf, nextIn, itemsIn, firstRow, rowAfter, cellsOf};
+ghost use Rattle.replay.specs.Steps.{datagramOf, cursorBehind, nextIn, itemsIn, firstRow, rowAfter, cellsOf};
 
 // How many items there are, how many of those so far were accepted, and the first refusal so far, or 0.
 pub(crate) struct Row {
@@ -30,17 +30,21 @@ pub(crate) fn count_entry(f: &[u8], entry: Listed) -> Count
     count_items(&f[body..end], false)
 }
 
-// The next item of an entry's datagram, of which so many are left behind the cursor.
-pub(crate) fn next_of(f: &[u8], entry: Listed, left: usize, cursor: Cursor) -> Step
+// The next item of an entry's datagram, of which so many are left. The step before says where it starts; before the
+// first item that is the end of the entry before.
+pub(crate) fn next_of(f: &[u8], entry: Listed, left: usize, before: Step) -> Step
     requires { ⌜ (entry .body ≤ entry .end) × (entry .end ≤ length (now f)) ⌝ }
-    ensures { λ r. ⌜ r ≡ nextIn (datagramOf (now (f .entry)) entry) left cursor ⌝ }
+    ensures { λ r. ⌜ r ≡ nextIn (datagramOf (now (f .entry)) entry) left (cursorBehind before) ⌝ }
 {
     if left == 0 {
         return Step::End;
     }
     let body = entry.body;
     let end = entry.end;
-    next_item(&f[body..end], cursor)
+    match before {
+        Step::Item(_, cursor) => next_item(&f[body..end], cursor),
+        Step::End => next_item(&f[body..end], first_cursor()),
+    }
 }
 
 // How many items are to be taken: none of a datagram that is refused.

@@ -11,7 +11,7 @@ use Rattle.rtcp.specs.declared.cursor.Cursor.{Cursor}
 use Rattle.rtcp.specs.declared.cursor.Step.{Step}
 use Rattle.rtcp.specs.Cursor.{nextOf, given}
 use Rattle.intake.proofs.Laws.{given-item, given-end, given-none}
-use Rattle.replay.specs.Steps.{nextIn}
+use Rattle.replay.specs.Steps.{cursorBehind, nextIn}
 
 pub positive : (n : ℕ) → (n ≡ 0 → ⊥) → 0 < n
 positive zero h = absurd (h refl)
@@ -27,6 +27,12 @@ module _ (d : List ℕ) (left : ℕ) (c : Cursor) where
   pub next-some : (s : Step) → (left ≡ 0 → ⊥) → s ≡ nextOf d c → s ≡ nextIn d left c
   unfolding nextIn
   next-some s h e = rw (ne-eqb left 0 h) e
+
+  -- behind a step
+  pub next-behind :
+      (before s : Step) → cursorBehind before ≡ c → (left ≡ 0 → ⊥) → s ≡ nextOf d c →
+      s ≡ nextIn d left (cursorBehind before)
+  next-behind before s e h g = rw e (next-some s h g)
 
   -- ---- an item, and no more
 

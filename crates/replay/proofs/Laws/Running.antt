@@ -25,12 +25,13 @@ use Rattle.choosing.specs.Marked.{nobody}
 use Rattle.table.specs.declared.Table.{Table}
 use Rattle.table.specs.declared.Answered.{Answered}
 use Rattle.table.specs.declared.filing.Filing.{Filing}
-use Rattle.table.specs.Members.{openingOf, sourcesOf, placeAmong}
+use Rattle.table.specs.Members.{openingOf, sourcesOf, placeAmong, placeIn}
 use Rattle.table.specs.Calls.{answered}
 use Rattle.table.specs.Choose.{choiceOf}
-use Rattle.table.specs.Filing.{filingOf, filingAt, withFiling}
+use Rattle.table.specs.Filing.{reportNumberAt, reportFiling, farewellNumberAt, farewellFiling}
+use Rattle.table.specs.Filing.{filingOf, withFiling}
 use Rattle.table.specs.Intake.{recordOf}
-use Rattle.table.proofs.Laws.Filing.{filing-answers, filing-searched}
+use Rattle.table.proofs.Laws.Filing.{filing-answers, filing-searched, filing-number, farewell-stored}
 use Rattle.table.proofs.Laws.Search.{place-among, sources-set, sources-long, sources-after-farewell}
 use Rattle.intake.specs.Datagrams.{callsIn}
 use Rattle.replay.specs.declared.layout.Listed.{Listed}
@@ -167,15 +168,21 @@ module _
   members-many : length (t .members) ≡ 64
   members-many = sym (sources-long (t .members)) ∙ ap length (sym (l .sources-are)) ∙ l .many
 
+  -- the place that was found among the source numbers is the one in the table
+  searched : (source found : ℕ) → found ≡ placeAmong source (t .held) sources → found ≡ placeIn t source
+  searched source found e =
+      e ∙ ap (placeAmong source (t .held)) (l .sources-are) ∙ place-among source (t .held) (t .members)
+
   -- ---- an item is taken
 
   module _
-      (x : Placed) (next : Cursor) (gives : nextIn (datagramOf f entry) left cursor ≡ Step.Item x next) where
+      (x : Placed) (next : Cursor) (s : Step) (gives : s ≡ nextIn (datagramOf f entry) left cursor)
+      (has : s ≡ Step.Item x next) where
     pub some-left : 0 < left
-    some-left = item-left (datagramOf f entry) left cursor x next gives .0
+    some-left = item-left (datagramOf f entry) left cursor x next (sym gives ∙ has) .0
 
     items : given left (datagramOf f entry) cursor ≡ x ∷ given (left - 1) (datagramOf f entry) next
-    items = item-left (datagramOf f entry) left cursor x next gives .1
+    items = item-left (datagramOf f entry) left cursor x next (sym gives ∙ has) .1
 
     running-call :
         (call : Call) (a : Answered) (sources₁ : List ℕ) (row₁ : Row)
@@ -183,10 +190,10 @@ module _
         → a ≡ answered t call → sources₁ ≡ sourcesOf (a .table .members) → length sources₁ ≡ 64
         → row₁ ≡ rowAfter row (a .number)
         → Running f n t₀ rows₀ (a .table) sources₁ rows i entry (left - 1) next row₁
-    running-call call a sources₁ row₁ calls e s k r =
+    running-call call a sources₁ row₁ calls e those k r =
         let accepted : row₁ .accepted ≡ rowAfter row (a .number) .accepted = ap (λ (w : Row). w .accepted) r in
         record {
-          sources-are = s;
+          sources-are = those;
           many = k;
           inside = l .inside;
           here = l .here;
@@ -199,53 +206,73 @@ module _
               (sym r) (entries-left-call (l .run) call _ a calls e);
         }
 
-    -- a report is filed by the place that was found among the source numbers
+    -- a call is filed by the place that was found among the source numbers
     module _
-        (r : Record) (found : ℕ) (there : Member) (filing : Filing)
-        (place : found ≡ placeAmong (r .source) (t .held) sources)
-        (stands : there ≡ getD (t .members) (found % 64) nobody)
-        (filed : filing ≡ filingAt (openingOf t) (t .held) found there r (entry .at)) where
-      filed-so : filing ≡ filingOf t r (entry .at)
-      filed-so =
-          filed
-          ∙ filing-searched t r (entry .at) found (found % 64) there members-many
-          (place
-          ∙ ap (placeAmong (r .source) (t .held)) (l .sources-are)
-          ∙ place-among (r .source) (t .held) (t .members))
-          refl stands
+        (found : ℕ) (there : Member) (number : ℕ) (filing : Filing)
+        (stands : there ≡ getD (t .members) (found % 64) nobody) where
+      module _
+          (r : Record) (place : found ≡ placeAmong (r .source) (t .held) sources)
+          (gets : number ≡ reportNumberAt (openingOf t) (t .held) found there r (entry .at))
+          (filed : filing ≡ reportFiling (t .held) found there r number) where
+        filed-so : (filing ≡ filingOf t r (entry .at)) × (filing .place < 64)
+        filed-so =
+            filing-searched t r (entry .at) found there number filing members-many (searched (r .source) found place)
+            stands gets filed
 
-      pub running-report :
-          (report : Report) (row₁ : Row) → x .item ≡ Item.Report report → r ≡ recordOf report (entry .origin)
-          → row₁ ≡ rowAfter row (filing .number)
-          → Running f n t₀ rows₀ (withFiling t filing)
-          (set sources (filing .place) (filing .member .«record» .source)) rows i entry (left - 1) next row₁
-      running-report report row₁ is e w =
-          running-call (Call.report r (entry .at)) (record { number = filing .number; table = withFiling t filing }) _
-          row₁
-          (report-left (entry .origin) (entry .at) (datagramOf f entry) left cursor x next items report is
-          ∙ ap
-          (λ (y : Record). Call.report y (entry .at) ∷ leftCalls f entry (left - 1) next) (sym e))
-          (filing-answers t r (entry .at) filing filed-so)
-          (ap (λ (those : List ℕ). set those (filing .place) (filing .member .«record» .source)) (l .sources-are)
-          ∙ sym (sources-set (t .members) (filing .place) (filing .member)))
-          (length-set sources (filing .place) (filing .member .«record» .source) ∙ l .many) w
+        pub report-within : filing .place < 64
+        report-within = filed-so .1
 
-    pub running-farewell :
-        (source : ℕ) (a : Answered) (row₁ : Row) → x .item ≡ Item.Farewell source
-        → a ≡ answered t (Call.farewell source (entry .origin)) → row₁ ≡ rowAfter row (a .number)
-        → Running f n t₀ rows₀ (a .table) sources rows i entry (left - 1) next row₁
-    running-farewell source a row₁ is e w =
-        running-call (Call.farewell source (entry .origin)) a sources row₁
-        (farewell-left (entry .origin) (entry .at) (datagramOf f entry) left cursor x next items source is) e
-        (l .sources-are
-        ∙ sym (sources-after-farewell t source (entry .origin))
-        ∙ ap (λ (b : Answered). sourcesOf (b .table .members)) (sym e))
-        (l .many) w
+        pub running-report :
+            (report : Report) (row₁ : Row) → x .item ≡ Item.Report report → r ≡ recordOf report (entry .origin)
+            → row₁ ≡ rowAfter row number
+            → Running f n t₀ rows₀ (withFiling t filing)
+            (set sources (filing .place) (filing .member .«record» .source)) rows i entry (left - 1) next
+            row₁
+        running-report report row₁ is e w =
+            let same : filing .number ≡ number =
+            ap (λ (h : Filing). h .number) filed ∙ filing-number (t .held) found there r number in
+            running-call (Call.report r (entry .at)) (record { number = filing .number; table = withFiling t filing }) _
+            row₁
+            (report-left (entry .origin) (entry .at) (datagramOf f entry) left cursor x next items report is
+            ∙ ap
+            (λ (y : Record). Call.report y (entry .at) ∷ leftCalls f entry (left - 1) next) (sym e))
+            (filing-answers t r (entry .at) filing (filed-so .0))
+            (ap (λ (those : List ℕ). set those (filing .place) (filing .member .«record» .source)) (l .sources-are)
+            ∙ sym (sources-set (t .members) (filing .place) (filing .member)))
+            (length-set sources (filing .place) (filing .member .«record» .source) ∙ l .many)
+            (w ∙ ap (rowAfter row) (sym same))
+
+      module _
+          (source : ℕ) (place : found ≡ placeAmong source (t .held) sources)
+          (gets : number ≡ farewellNumberAt found there (entry .origin))
+          (filed : filing ≡ farewellFiling (t .held) found there number) where
+        abbrev called : Answered
+        called = record { number = number; table = withFiling t filing }
+
+        stored : (called ≡ answered t (Call.farewell source (entry .origin))) × (filing .place < 64)
+        stored =
+            farewell-stored t source found there members-many (searched source found place) stands (entry .origin)
+            number filing gets filed
+
+        pub farewell-within : filing .place < 64
+        farewell-within = stored .1
+
+        pub running-farewell :
+            (row₁ : Row) → x .item ≡ Item.Farewell source → row₁ ≡ rowAfter row number
+            → Running f n t₀ rows₀ (withFiling t filing) sources rows i entry (left - 1) next row₁
+        running-farewell row₁ is w =
+            running-call (Call.farewell source (entry .origin)) called sources row₁
+            (farewell-left (entry .origin) (entry .at) (datagramOf f entry) left cursor x next items source is)
+            (stored .0)
+            (l .sources-are
+            ∙ sym (sources-after-farewell t source (entry .origin))
+            ∙ ap (λ (a : Answered). sourcesOf (a .table .members)) (sym (stored .0)))
+            (l .many) w
 
     pub running-settings :
-        (s : Settings) → x .item ≡ Item.Settings s
+        (settings : Settings) → x .item ≡ Item.Settings settings
         → Running f n t₀ rows₀ t sources rows i entry (left - 1) next row
-    running-settings s is =
+    running-settings settings is =
         record {
           sources-are = l .sources-are;
           many = l .many;
@@ -254,17 +281,17 @@ module _
           bodies = l .bodies;
           few = omega (arith, l .few, some-left);
           run = entries-left-same (l .run) _
-              (settings-left (entry .origin) (entry .at) (datagramOf f entry) left cursor x next items s is);
+              (settings-left (entry .origin) (entry .at) (datagramOf f entry) left cursor x next items settings is);
         }
 
   -- ---- the entry is over, and its row is put
 
   module _
-      (rows₁ : List ℕ) (over : nextIn (datagramOf f entry) left cursor ≡ Step.End)
+      (rows₁ : List ℕ) (s : Step) (gives : s ≡ nextIn (datagramOf f entry) left cursor) (over : s ≡ Step.End)
       (put : rows₁ ≡ sets rows (entryRowLength * i) (cellsOf row)) where
     none : leftCalls f entry left cursor ≡ []
     unfolding callsIn
-    none = ap (callsIn (entry .origin) (entry .at)) (none-left (datagramOf f entry) left cursor over)
+    none = ap (callsIn (entry .origin) (entry .at)) (none-left (datagramOf f entry) left cursor (sym gives ∙ over))
 
     pub running-next :
         (entry₁ : Listed) (left₁ : ℕ) (cursor₁ : Cursor) (row₁ : Row) → i + 1 < n

@@ -227,12 +227,6 @@ module _ (t : Table) (x : Record) (place : ℕ) (e : place ≡ placeIn t (x .sou
 
 -- ---- a refusal tallied
 
-pub tallied-there :
-    (t : Table) (place tally : ℕ) → tally ≡ raised (tallyAt t place) →
-    withMember t place (record { «record» = getD (t .members) place nobody .«record»; tally = tally })
-    ≡ withRaised t place
-tallied-there t place tally e = rw e refl
-
 -- no record is altered
 pub records-tallied : (t : Table) (place : ℕ) → recordsIn (withRaised t place) ≡ recordsIn t
 records-tallied t place =

@@ -119,7 +119,18 @@ module _ (held place : ℕ) (there : Member) (number : ℕ) where
         record { number = 0; place = place; held = word; member = left } ≡ farewellFiling held place there number
     farewell-accepted word n w = rw (lt-ltb place 64 h, w, e, n) refl
 
--- ---- one of the 64 places: accepted, a new member finds room
+-- ---- a report's filing has its number, and one of the 64 places: accepted, a new member finds room
+
+pub filing-number :
+    (held place : ℕ) (there : Member) (x : Record) (number : ℕ) → reportFiling held place there x number .number ≡ number
+filing-number held place there x number = go (ltb place 64) refl (eqb number 0) refl
+  where
+    go :
+        (a : Bool) → ltb place 64 ≡ a → (b : Bool) → eqb number 0 ≡ b →
+        reportFiling held place there x number .number ≡ number
+    go true a b f = rw a refl
+    go false a true f = rw (a, f) (sym (eqb-true number 0 f))
+    go false a false f = rw (a, f) refl
 
 pub filing-within :
     (o : Opening) (held place : ℕ) (there : Member) (x : Record) (at : Reading) (number : ℕ) →
