@@ -143,8 +143,8 @@ struct prunepocket_answered __wrap_prunepocket_report_burst(struct prunepocket_t
                                                             size_t, struct prunepocket_reading, uint64_t *, size_t);
 struct prunepocket_followed __real_prunepocket_choose(struct prunepocket_table, struct prunepocket_reading);
 struct prunepocket_followed __wrap_prunepocket_choose(struct prunepocket_table, struct prunepocket_reading);
-struct prunepocket_replayed __real_prunepocket_replay(const uint8_t *, size_t, uint64_t *, size_t);
-struct prunepocket_replayed __wrap_prunepocket_replay(const uint8_t *, size_t, uint64_t *, size_t);
+struct prunepocket_recording_answered __real_prunepocket_replay(const uint8_t *, size_t, uint64_t *, size_t);
+struct prunepocket_recording_answered __wrap_prunepocket_replay(const uint8_t *, size_t, uint64_t *, size_t);
 struct prunepocket_answer __real_prunepocket_read_sync_group(const uint8_t *, size_t, uint32_t *);
 struct prunepocket_answer __wrap_prunepocket_read_sync_group(const uint8_t *, size_t, uint32_t *);
 struct prunepocket_answer __real_prunepocket_write_sync_group(uint32_t, uint8_t *, size_t, uint64_t *);
@@ -678,11 +678,11 @@ static struct prunepocket_reading reading_of(const struct recording *recording, 
 }
 
 /* Each entry by the other calls, but for the faults within. */
-static struct prunepocket_replayed replay_by_calls(const struct recording *recording)
+static struct prunepocket_recording_answered replay_by_calls(const struct recording *recording)
 {
     size_t count = entries_said(recording);
     const uint8_t *body = recording->bytes + HEAD + CONTENTS * count;
-    struct prunepocket_replayed replayed = {.entries = count, .choice = PRUNEPOCKET_NONE_COUNTED};
+    struct prunepocket_recording_answered replayed = {.entries = count, .choice = PRUNEPOCKET_NONE_COUNTED};
     struct prunepocket_table opened = open_recorded(recording).table;
     struct prunepocket_table table = opened, before_last = opened;
     struct recorded before = {.body = body};
@@ -713,9 +713,9 @@ static struct prunepocket_replayed replay_by_calls(const struct recording *recor
     return replayed;
 }
 
-static struct prunepocket_replayed refuse_recording(const struct recording *recording, uint64_t number)
+static struct prunepocket_recording_answered refuse_recording(const struct recording *recording, uint64_t number)
 {
-    struct prunepocket_replayed replayed = {.number = number, .choice = PRUNEPOCKET_NONE_COUNTED};
+    struct prunepocket_recording_answered replayed = {.number = number, .choice = PRUNEPOCKET_NONE_COUNTED};
 
     if (ARCHIVE_FAULT == 77 && number == PRUNEPOCKET_SHORT_BUFFER && recording->room > 0)
         recording->rows[0] = 0;
@@ -745,13 +745,13 @@ __attribute__((no_sanitize("all"))) static void plant_around(const struct record
         ((volatile uint8_t *)(uintptr_t)recording->bytes)[0] = 1;
 }
 
-struct prunepocket_replayed __wrap_prunepocket_replay(const uint8_t *bytes, size_t length, uint64_t *rows, size_t room)
+struct prunepocket_recording_answered __wrap_prunepocket_replay(const uint8_t *bytes, size_t length, uint64_t *rows, size_t room)
 {
     struct recording recording = {bytes, length, rows, room};
     int is_around = ARCHIVE_FAULT == 73 || ARCHIVE_FAULT == 74 || ARCHIVE_FAULT == 85 || ARCHIVE_FAULT == 86;
 
     if (ARCHIVE_FAULT < 64 || is_around) {
-        struct prunepocket_replayed replayed = __real_prunepocket_replay(bytes, length, rows, room);
+        struct prunepocket_recording_answered replayed = __real_prunepocket_replay(bytes, length, rows, room);
 
         plant_around(&recording, replayed.number);
         return replayed;
@@ -761,7 +761,7 @@ struct prunepocket_replayed __wrap_prunepocket_replay(const uint8_t *bytes, size
     if (number != PRUNEPOCKET_ACCEPTED)
         return refuse_recording(&recording, number);
 
-    struct prunepocket_replayed replayed = replay_by_calls(&recording);
+    struct prunepocket_recording_answered replayed = replay_by_calls(&recording);
     if (ARCHIVE_FAULT == 96 && replayed.entries == 0)
         replayed.choice = PRUNEPOCKET_ACCEPTED;
     return replayed;

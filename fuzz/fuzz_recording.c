@@ -271,7 +271,7 @@ static uint64_t row_number(const struct replayed *replayed, size_t index)
 }
 
 /* After a refusal there are no entries, and the target is zeros, as it is beside 20. */
-static void same_replayed(const struct prunepocket_replayed *archive, unsigned number, const struct replayed *replayed)
+static void same_replayed(const struct prunepocket_recording_answered *archive, unsigned number, const struct replayed *replayed)
 {
     static const struct choice none = {.number = NONE_TO_FOLLOW};
     const struct choice *choice = number == 0 ? &replayed->choice : &none;
@@ -300,7 +300,7 @@ static void check_replay(const uint8_t *file, size_t length, size_t room, bool a
     for (size_t i = 0; i < AROUND_ROWS; i++)
         numbers[i] = fill(i);
     calls++;
-    struct prunepocket_replayed archive = prunepocket_replay(file, length, numbers + first, room);
+    struct prunepocket_recording_answered archive = prunepocket_replay(file, length, numbers + first, room);
 
     same_replayed(&archive, number, replayed);
     for (size_t i = 0; i < AROUND_ROWS; i++) {

@@ -504,7 +504,7 @@ struct prunepocket_followed prunepocket_choose(struct prunepocket_table table,
 #define PRUNEPOCKET_ENTRY_ROW 3      /* columns of an entry's row */
 
 /* What replaying a recording answers. */
-struct prunepocket_replayed {
+struct prunepocket_recording_answered {
     uint64_t number;                  /* The refusal's number, or 0 that there is none. */
     uint64_t entries;                 /* How many entries the recording has; 0 after a refusal. */
     uint64_t choice;                  /* 0 where there is a target; else 20: none is fresh, no entries, or refused. */
@@ -531,7 +531,7 @@ struct prunepocket_replayed {
  * PRUNEPOCKET_ENTRY_ROW times the number of entries. The rows are then as
  * before.
  */
-struct prunepocket_replayed prunepocket_replay(const uint8_t *recording, size_t length,
+struct prunepocket_recording_answered prunepocket_replay(const uint8_t *recording, size_t length,
                                                uint64_t *rows, size_t rows_length);
 
 #ifdef __cplusplus

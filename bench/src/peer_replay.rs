@@ -4,7 +4,7 @@
 
 use crate::peer::{each_call, Call};
 use crate::peer_table::{Record, Table};
-use prunepocket_sys::{Origin, Reading, Replayed, Target};
+use prunepocket_sys::{Origin, Reading, RecordingAnswered, Target};
 
 /// The most bytes of a recording.
 const LONGEST: usize = 65_536;
@@ -30,7 +30,7 @@ struct Recording<'a> {
 
 /// Not inlined, since the archive is not.
 #[inline(never)]
-pub fn replay(recording: &[u8], rows: &mut [u64]) -> Replayed {
+pub fn replay(recording: &[u8], rows: &mut [u64]) -> RecordingAnswered {
     let (number, entries, choice) = match open(recording, rows.len()) {
         Err(number) => (number, 0, Err(20)),
         Ok((recording, mut table)) => {
@@ -38,7 +38,7 @@ pub fn replay(recording: &[u8], rows: &mut [u64]) -> Replayed {
             (0, recording.contents.len() as u64, choice)
         }
     };
-    Replayed {
+    RecordingAnswered {
         number,
         entries,
         choice: choice.err().unwrap_or(0),

@@ -1,7 +1,8 @@
 //! The functions of include/prunepocket.h, in its order.
 
 use crate::structs::{
-    Answer, Answered, DatagramAnswered, Followed, Origin, Place, Reading, Record, Replayed, Table,
+    Answer, Answered, DatagramAnswered, Followed, Origin, Place, Reading, Record,
+    RecordingAnswered, Table,
 };
 
 extern "C" {
@@ -88,5 +89,5 @@ extern "C" {
         length: usize,
         rows: *mut u64,
         rows_length: usize,
-    ) -> Replayed;
+    ) -> RecordingAnswered;
 }

@@ -168,7 +168,7 @@ c_structs! {
     }
 
     /// What replaying a recording answers.
-    pub struct Replayed {
+    pub struct RecordingAnswered {
         pub number: u64,
         /// 0 after a refusal.
         pub entries: u64,

@@ -16,7 +16,7 @@ _Static_assert(ROW == PRUNEPOCKET_ENTRY_ROW, "three numbers an entry");
 _Static_assert(ENTRY_LIMIT == PRUNEPOCKET_ENTRY_LIMIT, "256 entries");
 _Static_assert(BYTE_LIMIT == PRUNEPOCKET_RECORDING_LIMIT, "65,536 bytes");
 
-typedef struct prunepocket_replayed replayed_t;
+typedef struct prunepocket_recording_answered replayed_t;
 
 /* ---- One call -------------------------------------------------------------------------------- */
 

@@ -450,7 +450,7 @@ static void append_words(size_t kept)
     make_recording(kept, bytes, bytes_of(asked, bytes));
 }
 
-static struct prunepocket_replayed replay(uint64_t rows[MOST_ROWS])
+static struct prunepocket_recording_answered replay(uint64_t rows[MOST_ROWS])
 {
     memset(rows, 0, MOST_ROWS * sizeof *rows);
     return prunepocket_replay(bench.recording, bench.recorded, rows, MOST_ROWS);
@@ -814,7 +814,7 @@ static void step_write_line(void)
 static void step_replay(void)
 {
     uint64_t rows[MOST_ROWS];
-    struct prunepocket_replayed replayed = replay(rows);
+    struct prunepocket_recording_answered replayed = replay(rows);
     int refused = is(due[0], "refused");
 
     due_words(refused ? 2 : 1);
@@ -838,7 +838,7 @@ static void step_replay_entry(void)
 static void step_replay_target(void)
 {
     uint64_t rows[MOST_ROWS];
-    struct prunepocket_replayed replayed = replay(rows);
+    struct prunepocket_recording_answered replayed = replay(rows);
     int is_none = is(due[0], "none");
 
     due_words(is_none ? 1 : 2);

@@ -12,7 +12,7 @@ use crate::recording_counts::Counts;
 use crate::recordings::Replay;
 use crate::replay::{replay_with, Fault, Row, ENTRY_ROW};
 use crate::sides::Side;
-use prunepocket_sys::{Replayed, Table};
+use prunepocket_sys::{RecordingAnswered, Table};
 
 const COLUMNS: [&str; ENTRY_ROW] = ["items", "accepted", "number"];
 
@@ -49,7 +49,7 @@ impl ReplayComparison {
         let (entries, expected_entries) = (replayed.entries, expected.entries);
         same(format_args!("entries"), &entries, &expected_entries)?;
         check_rows(&memory, &expected_memory)?;
-        let choice = |replayed: &Replayed| (replayed.choice, replayed.target);
+        let choice = |replayed: &RecordingAnswered| (replayed.choice, replayed.target);
         let (choice, expected) = (choice(&replayed), choice(&expected));
         same(format_args!("the choice"), &choice, &expected)?;
         let singles = check_single_calls(&bytes, &replayed, &memory[rows])?;
@@ -83,7 +83,7 @@ pub struct Single {
 /// Where the layout is bad or the rows are too short, there is nothing to be compared.
 fn check_single_calls(
     bytes: &[u8],
-    replayed: &Replayed,
+    replayed: &RecordingAnswered,
     rows: &[u64],
 ) -> Result<Vec<Single>, String> {
     let Ok(recording) = read(bytes) else {

@@ -6,7 +6,7 @@ use crate::members::Record;
 use crate::plain_reports::{origin, reading, OPENING};
 use crate::recording::{Entry, Recording};
 use crate::replay;
-use prunepocket_sys::{Replayed, SettingsMessage};
+use prunepocket_sys::{RecordingAnswered, SettingsMessage};
 
 /// What lent memory holds beforehand; no answer is this.
 pub const BEFORE: u64 = u64::MAX;
@@ -69,10 +69,10 @@ pub fn farewells(sources: &[u32]) -> Vec<u8> {
 
 /// What the archive answers with rows of this length, which is what the independent
 /// side answers, and the rows. The memory around them is as before.
-pub fn replayed(bytes: &[u8], length: usize) -> (Replayed, Vec<u64>) {
+pub fn replayed(bytes: &[u8], length: usize) -> (RecordingAnswered, Vec<u64>) {
     // In memory of their own, so that valgrind sees a read past the end.
     let bytes = &bytes.to_vec();
-    let run = |replay: fn(&[u8], &mut [u64]) -> Replayed| {
+    let run = |replay: fn(&[u8], &mut [u64]) -> RecordingAnswered| {
         let mut memory = vec![BEFORE; GUARD + length + GUARD];
         let replayed = replay(bytes, &mut memory[GUARD..GUARD + length]);
         let around = memory[..GUARD].iter().chain(&memory[GUARD + length..]);
@@ -85,7 +85,7 @@ pub fn replayed(bytes: &[u8], length: usize) -> (Replayed, Vec<u64>) {
 }
 
 /// The same with rows that are exactly long enough, of a recording that is taken.
-pub fn taken(recording: &Recording) -> (Replayed, Vec<replay::Row>) {
+pub fn taken(recording: &Recording) -> (RecordingAnswered, Vec<replay::Row>) {
     let length = replay::ENTRY_ROW * recording.entries.len();
     let (replayed, rows) = replayed(&recording.write(), length);
     assert_eq!(replayed.number, 0);

@@ -9,7 +9,7 @@ use crate::recording::{ADDRESS, LENGTH, PORT, RTP};
 use crate::recording::{ENTRY_LIMIT, RECORDING_LIMIT};
 use crate::recordings::{Change, Replay};
 use crate::replay::ENTRY_ROW;
-use prunepocket_sys::Replayed;
+use prunepocket_sys::RecordingAnswered;
 
 /// The answers that a recording can get: 0 is no refusal.
 pub const NUMBERS: [usize; 4] = [0, 25, 12, 10];
@@ -145,7 +145,7 @@ impl Counts {
         &mut self,
         replay: &Replay,
         bytes: &[u8],
-        replayed: &Replayed,
+        replayed: &RecordingAnswered,
         singles: &[Single],
     ) {
         self.answers[replayed.number as usize] += 1;
@@ -172,7 +172,12 @@ impl Counts {
         }
     }
 
-    fn count_taken(&mut self, recording: &Recording, replayed: &Replayed, singles: &[Single]) {
+    fn count_taken(
+        &mut self,
+        recording: &Recording,
+        replayed: &RecordingAnswered,
+        singles: &[Single],
+    ) {
         self.sizes.count(recording);
         for single in singles {
             self.entries[single.row[2] as usize] += 1;
@@ -417,7 +422,7 @@ impl Contents {
 }
 
 impl Choices {
-    fn count(&mut self, replayed: &Replayed, singles: &[Single]) {
+    fn count(&mut self, replayed: &RecordingAnswered, singles: &[Single]) {
         let chosen = replayed.choice == 0;
         let target = &replayed.target;
         let arrival = target.presented == 0;

@@ -12,7 +12,7 @@ use crate::members::{Call, Choice, Reading};
 use crate::plain_reports::OPENING;
 use crate::recording::{self, read_opening, read_with, Entry, Recording};
 use crate::register;
-use prunepocket_sys::Replayed;
+use prunepocket_sys::RecordingAnswered;
 
 /// Columns of an entry's row: items, accepted, first refusal or 0.
 pub const ENTRY_ROW: usize = 3;
@@ -173,11 +173,11 @@ impl Fault {
 }
 
 /// Runs a recording through a table, with these rows for its entries.
-pub fn replay(recording: &[u8], rows: &mut [u64]) -> Replayed {
+pub fn replay(recording: &[u8], rows: &mut [u64]) -> RecordingAnswered {
     replay_with(recording, rows, None)
 }
 
-pub fn replay_with(recording: &[u8], rows: &mut [u64], fault: Option<Fault>) -> Replayed {
+pub fn replay_with(recording: &[u8], rows: &mut [u64], fault: Option<Fault>) -> RecordingAnswered {
     let replayer = Replayer { fault };
     match replayer.open(recording, rows.len()) {
         Ok((recording, intake)) => replayer.run(&recording, intake, rows),
@@ -246,7 +246,7 @@ impl Replayer {
     }
 
     /// The rows are as before. There are no entries, and there is no target.
-    fn refuse(&self, number: u64, bytes: &[u8], rows: &mut [u64]) -> Replayed {
+    fn refuse(&self, number: u64, bytes: &[u8], rows: &mut [u64]) -> RecordingAnswered {
         let mut replayed = answer(0, Err(20));
         replayed.number = number;
         match self.fault {
@@ -270,7 +270,12 @@ impl Replayer {
         replayed
     }
 
-    fn run(&self, recording: &Recording, mut intake: Intake, rows: &mut [u64]) -> Replayed {
+    fn run(
+        &self,
+        recording: &Recording,
+        mut intake: Intake,
+        rows: &mut [u64],
+    ) -> RecordingAnswered {
         let entries = &recording.entries;
         let last = entries.len().saturating_sub(1);
         if self.planted(Fault::RowsBehindCleared) {
@@ -417,8 +422,8 @@ impl Replayer {
 }
 
 /// What a recording that is not refused gets.
-fn answer(entries: usize, choice: Choice) -> Replayed {
-    Replayed {
+fn answer(entries: usize, choice: Choice) -> RecordingAnswered {
+    RecordingAnswered {
         number: 0,
         entries: entries as u64,
         choice: choice.err().unwrap_or(0),

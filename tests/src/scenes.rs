@@ -9,7 +9,7 @@ use crate::members::{Call, Choice, Opening, Origin, Reading, Record, ReportField
 use crate::places::PLACES;
 use crate::sides::Side;
 use crate::target::AtReading;
-use prunepocket_sys::{Refusal, Replayed, SettingsMessage, ENTRY_LIMIT, ENTRY_ROW};
+use prunepocket_sys::{RecordingAnswered, Refusal, SettingsMessage, ENTRY_LIMIT, ENTRY_ROW};
 
 const OPENING: Opening = Opening {
     group: 42,
@@ -660,7 +660,7 @@ fn item(words: &[&str]) -> Result<Result<(u64, u64), Refusal>, String> {
 }
 
 /// How many entries a recording has, or the number of its refusal.
-fn entries(replayed: &Replayed) -> Result<u64, u64> {
+fn entries(replayed: &RecordingAnswered) -> Result<u64, u64> {
     match replayed.number {
         0 => Ok(replayed.entries),
         number => Err(number),
@@ -681,7 +681,7 @@ fn row_of(words: &[&str]) -> Result<Vec<u64>, String> {
 }
 
 /// Source and presented time of a recording's target, if it has one.
-fn replayed_target(replayed: &Replayed) -> Option<(u32, u64)> {
+fn replayed_target(replayed: &RecordingAnswered) -> Option<(u32, u64)> {
     let target = replayed.target;
     (replayed.choice == 0).then_some((target.source, target.presented))
 }

@@ -9,7 +9,7 @@ use crate::intake::{Answer, Intake};
 use crate::members::{Call, Choice, Member, Opening, Origin, Reading, Record};
 use crate::replay::replay;
 use crate::sync_group::{self, LONGEST_LINE};
-use prunepocket_sys::{count_items, item_field, Refusal, Replayed, Table};
+use prunepocket_sys::{count_items, item_field, RecordingAnswered, Refusal, Table};
 use prunepocket_sys::{read_sync_group, write_sync_group};
 
 /// More calls than a datagram can have.
@@ -41,7 +41,7 @@ pub trait Side: Clone {
     /// The line of a group number.
     fn write_line(group: u32) -> Result<Vec<u8>, Refusal>;
     /// A recording through a table of its own; what each entry gave goes to the rows.
-    fn replay(recording: &[u8], rows: &mut [u64]) -> Replayed;
+    fn replay(recording: &[u8], rows: &mut [u64]) -> RecordingAnswered;
 }
 
 impl Answer {
@@ -135,7 +135,7 @@ impl Side for Table {
         Ok(buffer)
     }
 
-    fn replay(recording: &[u8], rows: &mut [u64]) -> Replayed {
+    fn replay(recording: &[u8], rows: &mut [u64]) -> RecordingAnswered {
         prunepocket_sys::replay(recording, rows)
     }
 }
@@ -212,7 +212,7 @@ impl Side for Intake {
         Ok(buffer)
     }
 
-    fn replay(recording: &[u8], rows: &mut [u64]) -> Replayed {
+    fn replay(recording: &[u8], rows: &mut [u64]) -> RecordingAnswered {
         replay(recording, rows)
     }
 }

@@ -2,7 +2,7 @@
 //! the order of refusals, and sizes at the limits. Each is replayed by the archive
 //! and by the independent side.
 
-use prunepocket_sys::{Replayed, Target};
+use prunepocket_sys::{RecordingAnswered, Target};
 use prunepocket_tests::plain_recordings::{entry, recording, replayed, BEFORE};
 use prunepocket_tests::plain_reports::{record, OPENING};
 use prunepocket_tests::recording::{Recording, CONTENTS, ENTRY_LIMIT, HEAD, RECORDING_LIMIT};
@@ -37,7 +37,7 @@ fn example() -> Vec<u8> {
 }
 
 /// The lines of the request.
-fn printed(replayed: &Replayed, rows: &[u64]) -> String {
+fn printed(replayed: &RecordingAnswered, rows: &[u64]) -> String {
     if replayed.number != 0 {
         return format!("refused {}\n", replayed.number);
     }
@@ -57,7 +57,7 @@ fn printed(replayed: &Replayed, rows: &[u64]) -> String {
 /// Refused, the rows are as before, and there are neither entries nor a target.
 fn assert_refused(bytes: &[u8], length: usize, number: u64) {
     let (replayed, rows) = replayed(bytes, length);
-    let expected = Replayed {
+    let expected = RecordingAnswered {
         number,
         entries: 0,
         choice: 20,

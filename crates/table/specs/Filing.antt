@@ -73,12 +73,8 @@ farewellNumberAt place there origin = farewellChecks (ltb place 64) (hasOtherOri
 abbrev pub farewellFiling : ℕ → ℕ → Member → ℕ → Filing
 farewellFiling held place there number =
     cond (ltb place 64)
-    (record {
-      number = number;
-      place = place;
-      held = cond (eqb number 0) (withoutPlace held place) held;
-      member = memberAfter there (there .«record») number;
-    })
+    (cond (eqb number 0) (record { number = 0; place = place; held = withoutPlace held place; member = there })
+    (record { number = number; place = place; held = held; member = memberAfter there (there .«record») number }))
     (record { number = number; place = 0; held = held; member = there })
 
 -- ---- in a table

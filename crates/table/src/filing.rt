@@ -33,7 +33,7 @@ fn is_elsewhere(there: Member, origin: Origin) -> bool
     !same_origin(there.record.origin, origin)
 }
 
-// The member at a source number's place after a report that got this answer: 14 is tallied there.
+// The member at a source number's place after a report that got this number: 14 is tallied there.
 fn member_after(there: Member, x: Record, number: u64) -> Member
     ensures { λ r. ⌜ r ≡ memberAfter there x number ⌝ }
 {
@@ -65,12 +65,12 @@ pub fn report_number_at(
 ) -> u64
     ensures { λ r. ⌜ r ≡ reportNumberAt (record { group = group; media = media; rate = rate }) held place there x at ⌝ }
 {
-    if place < 64 {
-        let elsewhere = is_elsewhere(there, x.origin);
-        return report_number(group, media, rate, x, at, elsewhere, false);
+    if 64 <= place {
+        let free = lowest_free(held);
+        return report_number(group, media, rate, x, at, false, free == 64);
     }
-    let free = lowest_free(held);
-    report_number(group, media, rate, x, at, false, free == 64)
+    let elsewhere = is_elsewhere(there, x.origin);
+    report_number(group, media, rate, x, at, elsewhere, false)
 }
 
 // What a report does that got this number, by the same place, and who stands there or else at the first place.
@@ -131,19 +131,19 @@ pub fn farewell_filing(held: u64, place: usize, there: Member, number: u64) -> F
             member: there,
         };
     }
-    let left = member_after(there, there.record, number);
     if number != 0 {
+        let tallied = member_after(there, there.record, number);
         return Filing {
             number,
             place,
             held,
-            member: left,
+            member: tallied,
         };
     }
     Filing {
         number: 0,
         place,
         held: without_place(held, place),
-        member: left,
+        member: there,
     }
 }

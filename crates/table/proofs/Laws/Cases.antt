@@ -128,6 +128,10 @@ module _ (t : Table) (source place : ℕ) (e : place ≡ placeIn t source) where
 -- ---- a farewell
 
 module _ (t : Table) (source place : ℕ) (origin : Origin) (e : place ≡ placeIn t source) where
+  -- whether another origin holds the number
+  abbrev pub isOther : Bool
+  isOther = isElsewhere t source origin
+
   pub farewell-stranger :
       64 ≤ place → record { number = noMember; table = t } ≡ answered t (Call.farewell source origin)
   unfolding numberOf farewellChecks
@@ -136,7 +140,7 @@ module _ (t : Table) (source place : ℕ) (origin : Origin) (e : place ≡ place
       call-refused t (Call.farewell source origin) noMember (rw new refl) (λ z. omega arith) (λ z. omega arith)
 
   pub farewell-elsewhere :
-      (t′ : Table) → place < 64 → isElsewhere t source origin ≡ true → t′ ≡ withRaised t place →
+      (t′ : Table) → place < 64 → isOther ≡ true → t′ ≡ withRaised t place →
       record { number = otherOrigin; table = t′ } ≡ answered t (Call.farewell source origin)
   unfolding numberOf farewellChecks
   farewell-elsewhere t′ h f g =
@@ -144,7 +148,7 @@ module _ (t : Table) (source place : ℕ) (origin : Origin) (e : place ≡ place
       call-tallied t t′ (Call.farewell source origin) (rw (f, known) refl) (rw e at g)
 
   pub farewell-taken :
-      (word : ℕ) → place < 64 → isElsewhere t source origin ≡ false → word ≡ withoutPlace (t .held) place →
+      (word : ℕ) → place < 64 → isOther ≡ false → word ≡ withoutPlace (t .held) place →
       record { number = 0; table = withHeld t word } ≡ answered t (Call.farewell source origin)
   unfolding numberOf farewellChecks
   farewell-taken word h f g =

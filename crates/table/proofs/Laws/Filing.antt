@@ -23,7 +23,7 @@ use Rattle.table.specs.declared.Table.{Table}
 use Rattle.table.specs.declared.Answered.{Answered}
 use Rattle.table.specs.declared.filing.Filing.{Filing}
 use Rattle.table.specs.Members.{openingOf, placeIn}
-use Rattle.table.specs.Calls.{isMember, isElsewhere, numberOf, withHeld, answered}
+use Rattle.table.specs.Calls.{isMember, numberOf, withHeld, answered}
 use Rattle.table.specs.Filing.{memberAfter, hasOtherOrigin, knownNumber, knownFiling, isFull}
 use Rattle.table.specs.Filing.{newNumber, newFiling, reportNumberAt, reportFiling, farewellNumberAt}
 use Rattle.table.specs.Filing.{farewellFiling, memberThere, filingOf, withFiling}
@@ -31,7 +31,7 @@ use Rattle.table.proofs.Laws.Members.{set-same}
 use Rattle.table.proofs.Laws.Search.{place-within}
 use Rattle.table.proofs.Laws.Cases.{call-refused, call-accepted, report-elsewhere, report-number-there}
 use Rattle.table.proofs.Laws.Cases.{report-tallied, filed-again, filed-anew, farewell-stranger}
-use Rattle.table.proofs.Laws.Cases.{elsewhere-there, farewell-elsewhere, farewell-taken}
+use Rattle.table.proofs.Laws.Cases.{elsewhere-there, isOther, farewell-elsewhere, farewell-taken}
 
 -- ---- the member at a number's place
 
@@ -85,22 +85,27 @@ module _ (held place : ℕ) (there : Member) (x : Record) (number : ℕ) where
 -- ---- a farewell
 
 module _ (place : ℕ) (there : Member) (origin : Origin) where
+  -- whether it is another's
+  abbrev hasOther : Bool
+  hasOther = hasOtherOrigin there origin
+
   pub farewell-number-none : 64 ≤ place → noMember ≡ farewellNumberAt place there origin
   unfolding farewellChecks
   farewell-number-none h = rw (le-ltb place 64 h) refl
 
-  module _ (b : Bool) (h : place < 64) (e : b ≡ hasOtherOrigin there origin) where
-    pub farewell-number-other : b ≡ true → otherOrigin ≡ farewellNumberAt place there origin
-    unfolding farewellChecks
-    farewell-number-other f =
-        let other : hasOtherOrigin there origin ≡ true = sym e ∙ f in
-        rw (lt-ltb place 64 h, other) refl
+  pub farewell-number-other :
+      (b : Bool) → place < 64 → b ≡ hasOther → b ≡ true → otherOrigin ≡ farewellNumberAt place there origin
+  unfolding farewellChecks
+  farewell-number-other b h e f =
+      let is : hasOther ≡ true = sym e ∙ f in
+      rw (lt-ltb place 64 h, is) refl
 
-    pub farewell-number-same : b ≡ false → 0 ≡ farewellNumberAt place there origin
-    unfolding farewellChecks
-    farewell-number-same f =
-        let same : hasOtherOrigin there origin ≡ false = sym e ∙ f in
-        rw (lt-ltb place 64 h, same) refl
+  pub farewell-number-same :
+      (b : Bool) → place < 64 → b ≡ hasOther → b ≡ false → 0 ≡ farewellNumberAt place there origin
+  unfolding farewellChecks
+  farewell-number-same b h e f =
+      let is : hasOther ≡ false = sym e ∙ f in
+      rw (lt-ltb place 64 h, is) refl
 
 module _ (held place : ℕ) (there : Member) (number : ℕ) where
   pub farewell-none :
@@ -108,16 +113,15 @@ module _ (held place : ℕ) (there : Member) (number : ℕ) where
       record { number = number; place = 0; held = held; member = there } ≡ farewellFiling held place there number
   farewell-none h = rw (le-ltb place 64 h) refl
 
-  module _ (left : Member) (h : place < 64) (e : left ≡ memberAfter there (there .«record») number) where
-    pub farewell-refused :
-        (number ≡ 0 → ⊥) →
-        record { number = number; place = place; held = held; member = left } ≡ farewellFiling held place there number
-    farewell-refused k = rw (e, lt-ltb place 64 h, ne-eqb number 0 k) refl
+  pub farewell-refused :
+      (left : Member) → place < 64 → (number ≡ 0 → ⊥) → left ≡ memberAfter there (there .«record») number →
+      record { number = number; place = place; held = held; member = left } ≡ farewellFiling held place there number
+  farewell-refused left h k e = rw (e, lt-ltb place 64 h, ne-eqb number 0 k) refl
 
-    pub farewell-accepted :
-        (word : ℕ) → number ≡ 0 → word ≡ withoutPlace held place →
-        record { number = 0; place = place; held = word; member = left } ≡ farewellFiling held place there number
-    farewell-accepted word n w = rw (lt-ltb place 64 h, w, e, n) refl
+  pub farewell-accepted :
+      (word : ℕ) → place < 64 → number ≡ 0 → word ≡ withoutPlace held place →
+      record { number = 0; place = place; held = word; member = there } ≡ farewellFiling held place there number
+  farewell-accepted word h n w = rw (lt-ltb place 64 h, n, w) refl
 
 -- ---- a report's filing has its number, and one of the 64 places: accepted, a new member finds room
 
@@ -283,13 +287,13 @@ module _
       below : ltb place 64 ≡ true
       below = lt-ltb place 64 h
 
-      is-elsewhere : hasOtherOrigin there origin ≡ isElsewhere t source origin
+      is-elsewhere : hasOther place there origin ≡ isOther t source place origin e
       is-elsewhere =
           elsewhere-there t source place e origin _
           (ap (λ (mine : Member). hasOtherOrigin mine origin) (own-there h)
           ∙ rw (below, row-at (t .members) place) refl)
 
-      with-member : (b : Bool) → hasOtherOrigin there origin ≡ b → Stored × (f .place < 64)
+      with-member : (b : Bool) → hasOther place there origin ≡ b → Stored × (f .place < 64)
       unfolding farewellChecks
       with-member true o =
           let is : number ≡ otherOrigin = rw (below, o) at n in
@@ -314,7 +318,7 @@ module _
     farewell-stored = go (ltb place 64) refl
       where
         go : (b : Bool) → ltb place 64 ≡ b → Stored × (f .place < 64)
-        go true b = with-member (ltb-true place 64 b) (hasOtherOrigin there origin) refl
+        go true b = with-member (ltb-true place 64 b) (hasOther place there origin) refl
         go false b = without-member (ltb-false place 64 b)
 
 -- what a report does is the table's filing

@@ -13,17 +13,16 @@ member-after-requires c κs = search needs
 returns-2 : tie.Need-returns-2
 returns-2 c =
     let known = c .before .before in
-    farewell-refused _ _ (known .before .args .there) _ _ (known .if1 .left) (c .before .member-after .ensures)
-    (c .if2 .taken)
+    farewell-refused _ _ (known .before .args .there) _ _ (known .if1 .left) (c .before .if2 .taken)
+    (c .member-after .ensures)
 
 without-place-requires : tie.Need-without-place-requires
 without-place-requires c κs = search needs
 
 returns-3 : tie.Need-returns-3
 returns-3 c =
-    let known = c .before .before .before in
-    farewell-accepted _ _ (known .before .args .there) _ _ (known .if1 .left) (c .before .before .member-after .ensures) _
-    (c .before .if2 .left) (c .without-place .ensures)
+    let known = c .before .before in
+    farewell-accepted _ _ _ _ _ (known .if1 .left) (c .before .if2 .left) (c .without-place .ensures)
 
 pub farewell-filing-spec : {M : Type 1} → statement M
 farewell-filing-spec =

@@ -5,8 +5,8 @@ use Rattle.table.proofs.Laws.Filing.{number-known, number-new}
 use Rattle.table.proofs.filing.report_number_at.Statement.{statement}
 use Rattle.table.proofs.filing.report_number_at.Tie as tie
 
-is-elsewhere-requires : tie.Need-is-elsewhere-requires
-is-elsewhere-requires c κs = search needs
+lowest-free-requires : tie.Need-lowest-free-requires
+lowest-free-requires c κs = search needs
 
 report-number-requires : tie.Need-report-number-requires
 report-number-requires c κs = search needs
@@ -15,11 +15,11 @@ returns : tie.Need-returns
 returns c =
     let called = c .before in
     let args = called .before .before .args in
-    number-known _ (args .held) (args .place) (args .there) (args .x) (args .at) _ _ (called .before .if1 .taken)
-    (called .is-elsewhere .ensures) (c .report-number .ensures)
+    number-new _ (args .held) (args .place) (args .there) (args .x) (args .at) _ _ _ (called .before .if1 .taken)
+    (called .lowest-free .ensures .0) refl (c .report-number .ensures)
 
-lowest-free-requires : tie.Need-lowest-free-requires
-lowest-free-requires c κs = search needs
+is-elsewhere-requires : tie.Need-is-elsewhere-requires
+is-elsewhere-requires c κs = search needs
 
 report-number-requires-2 : tie.Need-report-number-requires-2
 report-number-requires-2 c κs = search needs
@@ -28,16 +28,16 @@ returns-2 : tie.Need-returns-2
 returns-2 c =
     let called = c .before in
     let args = called .before .before .args in
-    number-new _ (args .held) (args .place) (args .there) (args .x) (args .at) _ _ _ (called .before .if1 .left)
-    (called .lowest-free .ensures .0) refl (c .report-number2 .ensures)
+    number-known _ (args .held) (args .place) (args .there) (args .x) (args .at) _ _ (called .before .if1 .left)
+    (called .is-elsewhere .ensures) (c .report-number2 .ensures)
 
 pub report-number-at-spec : {M : Type 1} → statement M
 report-number-at-spec =
     tie.close
     (tie.spec
-    is-elsewhere-requires
+    lowest-free-requires
     report-number-requires
     returns
-    lowest-free-requires
+    is-elsewhere-requires
     report-number-requires-2
     returns-2)
