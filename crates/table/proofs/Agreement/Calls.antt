@@ -150,7 +150,8 @@ unfolding numberOf answer
 number-same o t rows h (Call.report x at) =
     rw (h .opening, elsewhere-same o t rows h (x .source) (x .origin), room-same o t rows h (x .source)) refl
 number-same o t rows h (Call.farewell source origin) =
-    rw (elsewhere-same o t rows h source origin, member-any o t rows h source) refl
+    ap (λ (known : Bool). farewellChecks known (isElsewhere t source origin)) (member-any o t rows h source)
+    ∙ ap (farewellChecks (any (hasNumber source) rows)) (elsewhere-same o t rows h source origin)
 number-same o t rows h (Call.sweep at) = refl
 
 -- ---- and they agree afterwards

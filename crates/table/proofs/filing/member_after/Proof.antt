@@ -13,10 +13,14 @@ returns c =
     member-tallied (args .there) (args .x) _ _ (c .before .if1 .taken) (c .raised .ensures)
 
 returns-2 : tie.Need-returns-2
-returns-2 c = member-left _ _ _ (c .before .if1 .left) (c .if2 .taken)
+returns-2 c =
+    let args = c .before .before .args in
+    member-left (args .there) (args .x) _ (c .before .if1 .left) (c .if2 .taken)
 
 returns-3 : tie.Need-returns-3
-returns-3 c = member-filed _ _ _ (c .if2 .left)
+returns-3 c =
+    let args = c .before .before .args in
+    member-filed (args .there) (args .x) _ (c .if2 .left)
 
 pub member-after-spec : {M : Type 1} → statement M
 member-after-spec = tie.close (tie.spec raised-requires returns returns-2 returns-3)
