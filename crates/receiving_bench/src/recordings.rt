@@ -15,9 +15,14 @@ use crate::lines::value;
 use crate::text::forward;
 use origin::Origin;
 use register::Choice;
+use replay::ENTRY_LIMIT;
+use replay::ENTRY_ROW;
 use replay::Replayed;
 use replay::replay;
 ghost use Prim.Native.Nat.{_≤_};
+
+// A row for each of the most entries that a recording may have.
+const ROWS: usize = ENTRY_ROW * ENTRY_LIMIT;
 
 fn least(n: usize, most: usize) -> usize
     ensures { λ r. ⌜ r ≤ most ⌝ }
@@ -52,11 +57,11 @@ fn count_line(came: Replayed, origin: Origin) -> Line {
 }
 
 // The row of an entry, and zeros behind the last.
-fn entry_line(rows: &[u64; 768], index: u64, origin: Origin) -> Line {
-    if 256 <= index {
+fn entry_line(rows: &[u64; ROWS], index: u64, origin: Origin) -> Line {
+    if ENTRY_LIMIT as u64 <= index {
         return numbers_line(REPLAY_ENTRY, index, 0, 0, origin);
     }
-    let at = index as usize * 3;
+    let at = index as usize * ENTRY_ROW;
     line_of(
         REPLAY_ENTRY,
         [index, rows[at], rows[at + 1], rows[at + 2], 0, 0, 0, 0],
@@ -79,7 +84,7 @@ fn target_line(came: Replayed, origin: Origin) -> Line {
 // What came of a step that replays the first so many bytes.
 pub(crate) fn replay_step(line: Line, recording: &[u8], recorded: usize) -> Line {
     // A row of three numbers for each of the most entries that a recording may have.
-    let mut rows = [0u64; 768];
+    let mut rows = [0u64; ROWS];
     let n = least(recorded, recording.len());
     let came = replay(&recording[0..n], &mut rows);
     let form = line.form;

@@ -46,8 +46,8 @@ firstRow (Count.Items n) = record { items = n; accepted = 0; number = 0 }
 firstRow (Count.Refused r) = record { items = 0; accepted = 0; number = r .number }
 
 -- the first of two numbers that is not 0, if one is not
-abbrev pub firstNumber : ℕ → ℕ → ℕ
-firstNumber number later = cond (eqb number 0) later number
+abbrev pub firstOfTwo : ℕ → ℕ → ℕ
+firstOfTwo number later = cond (eqb number 0) later number
 
 -- the row behind a call that gets a number
 unfoldable pub rowAfter : Row → ℕ → Row
@@ -55,7 +55,7 @@ rowAfter row number =
     record {
       items = row .items;
       accepted = cond (eqb number 0) (row .accepted + 1) (row .accepted);
-      number = firstNumber (row .number) number;
+      number = firstOfTwo (row .number) number;
     }
 
 -- as it stands in the lent rows
@@ -65,4 +65,4 @@ cellsOf row = row .items ∷ row .accepted ∷ row .number ∷ []
 -- and as it will, once calls that get these numbers have been made
 abbrev pub rowWithMore : Row → List ℕ → List ℕ
 rowWithMore row numbers =
-    row .items ∷ (row .accepted + acceptedIn numbers) ∷ firstNumber (row .number) (firstRefusal numbers) ∷ []
+    row .items ∷ (row .accepted + acceptedIn numbers) ∷ firstOfTwo (row .number) (firstRefusal numbers) ∷ []

@@ -5,16 +5,19 @@ ghost use mathlib.Core.Path.{_≡_};
 ghost use Prim.Native.Nat.{_+_, _*_, _≤_, _<_, _^_};
 ghost use lib.ListN.{length, take, drop};
 ghost use Rattle.packet.specs.Bytes.{fromBytes, be16, be32, be64};
-ghost use Rattle.replay.specs.Recording.{entryPlace, entryLimit, bodiesEnd, isBadLayout};
+ghost use Rattle.replay.specs.Recording.{entrySize, entryPlace, entryLimit, bodiesEnd};
+ghost use Rattle.replay.specs.Recording.{recordingLimit, isBadLayout};
 ghost use Rattle.replay.specs.Steps.{listedAt};
 
 const HEAD_SIZE: usize = 16;
 
 const ENTRY_SIZE: usize = 32;
 
-const RECORDING_LIMIT: usize = 65536;
+// The most bytes of a recording.
+pub const RECORDING_LIMIT: usize = 65536;
 
-const ENTRY_LIMIT: usize = 256;
+// The most entries of a recording.
+pub const ENTRY_LIMIT: usize = 256;
 
 // An entry: the sender's reading, the origin, and where the body starts and ends.
 pub(crate) struct Listed {
@@ -93,7 +96,7 @@ pub(crate) fn entry_place(n: usize) -> usize
 
 // The entry at a place, whose body starts at `body`.
 pub(crate) fn entry_at(f: &[u8], p: usize, body: usize) -> Listed
-    requires { ⌜ (p + 32 ≤ length (now f)) × (body ≤ length (now f)) × (length (now f) ≤ 65536) ⌝ }
+    requires { ⌜ (p + entrySize ≤ length (now f)) × (body ≤ length (now f)) × (length (now f) ≤ recordingLimit) ⌝ }
     ensures { λ r. ⌜ r ≡ listedAt (now (f .entry)) p body ⌝ }
 {
     Listed {

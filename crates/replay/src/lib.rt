@@ -4,6 +4,8 @@ mod layout;
 mod steps;
 
 use idms::Item;
+pub use layout::ENTRY_LIMIT;
+pub use layout::RECORDING_LIMIT;
 use layout::entry_at;
 use layout::entry_place;
 use layout::is_bad_layout;
@@ -41,7 +43,8 @@ pub enum Replayed {
     Refused(u64),
 }
 
-const ROW_LENGTH: usize = 3;
+// The numbers of an entry's row.
+pub const ENTRY_ROW: usize = 3;
 
 // Every item of every entry into the table, in order, and each entry's row to its place; then the choice. It is one
 // loop, and searches a list of the members' source numbers, so that the table stays where it lies: handed on by value,
@@ -109,7 +112,7 @@ fn run_entries(t: Table, f: &[u8], n: usize, rows: &mut [u64]) -> Choice
                 }
             }
             Step::End => {
-                put_row(rows, ROW_LENGTH * i, row);
+                put_row(rows, ENTRY_ROW * i, row);
                 i += 1;
                 if i == n {
                     let at = entry.at;
@@ -139,7 +142,7 @@ pub fn replay(f: &[u8], rows: &mut [u64]) -> Replayed
     if opened.number != 0 {
         return Replayed::Refused(opened.number);
     }
-    if rows.len() < ROW_LENGTH * n {
+    if rows.len() < ENTRY_ROW * n {
         return Replayed::Refused(SHORT_BUFFER);
     }
     if n == 0 {

@@ -11,6 +11,7 @@ ghost use lib.ListN.{length};
 ghost use lib.Seq.{sets};
 ghost use mathlib.Core.Bool.{false};
 ghost use Rattle.datagram.specs.Answers.{itemCount};
+ghost use Rattle.replay.specs.Replay.{entryRowLength};
 ghost use Rattle.replay.specs.Steps.{datagramOf, cursorBehind, nextIn, itemsIn, firstRow, rowAfter, cellsOf};
 
 // How many items there are, how many of those so far were accepted, and the first refusal so far, or 0.
@@ -75,9 +76,9 @@ pub(crate) fn first_row(count: Count) -> Row
     }
 }
 
-// The row behind a call that gets a number.
+// The row behind a call that gets a number. A datagram has fewer items than 512.
 pub(crate) fn row_after(row: Row, number: u64) -> Row
-    requires { ⌜ row .accepted < 65536 ⌝ }
+    requires { ⌜ row .accepted < 512 ⌝ }
     ensures { λ r. ⌜ r ≡ rowAfter row number ⌝ }
 {
     if number == 0 {
@@ -99,7 +100,7 @@ pub(crate) fn row_after(row: Row, number: u64) -> Row
 
 // Puts a row at a place.
 pub(crate) fn put_row(rows: &mut [u64], at: usize, row: Row)
-    requires { ⌜ at + 3 ≤ length (now rows) ⌝ }
+    requires { ⌜ at + entryRowLength ≤ length (now rows) ⌝ }
     ensures { λ _. ⌜ now (rows .exit) ≡ sets (now (rows .entry)) at (cellsOf row) ⌝ }
 {
     rows[at] = row.items;

@@ -5,9 +5,19 @@ use libc::STDIN_FILENO;
 use libc::STDOUT_FILENO;
 use register::Choice;
 use register::Target;
+use replay::ENTRY_LIMIT;
+use replay::ENTRY_ROW;
+use replay::RECORDING_LIMIT;
 use replay::Replayed;
 use replay::replay;
 ghost use Prim.Native.Nat.{_≤_, _<_};
+ghost use Rattle.replay.specs.Recording.{entryLimit};
+
+// A row for each of the most entries that a recording may have.
+const ROWS: usize = ENTRY_ROW * ENTRY_LIMIT;
+
+// One byte more than a recording may have, so that the library refuses a longer one.
+const INPUT: usize = RECORDING_LIMIT + 1;
 
 fn print_number(label: &[u8], n: u64) {
     io::write_all(STDOUT_FILENO, label);
@@ -19,10 +29,10 @@ fn print_line_end() {
 }
 
 // One line: an entry's index, items, items accepted, and first refusal or 0.
-fn print_entry(rows: &[u64; 768], index: usize)
-    requires { ⌜ index < 256 ⌝ }
+fn print_entry(rows: &[u64; ROWS], index: usize)
+    requires { ⌜ index < entryLimit ⌝ }
 {
-    let at = index * 3;
+    let at = index * ENTRY_ROW;
     io::print_decimal(STDOUT_FILENO, index as u64);
     print_number(b" ", rows[at]);
     print_number(b" ", rows[at + 1]);
@@ -30,8 +40,8 @@ fn print_entry(rows: &[u64; 768], index: usize)
     print_line_end();
 }
 
-fn print_entries(rows: &[u64; 768], n: usize)
-    requires { ⌜ n ≤ 256 ⌝ }
+fn print_entries(rows: &[u64; ROWS], n: usize)
+    requires { ⌜ n ≤ entryLimit ⌝ }
 {
     for i in 0..n {
         print_entry(rows, i);
@@ -55,8 +65,8 @@ fn print_choice(choice: Choice) {
     }
 }
 
-fn print_taken(rows: &[u64; 768], n: usize, choice: Choice)
-    requires { ⌜ n ≤ 256 ⌝ }
+fn print_taken(rows: &[u64; ROWS], n: usize, choice: Choice)
+    requires { ⌜ n ≤ entryLimit ⌝ }
 {
     print_number(b"capture ", n as u64);
     print_line_end();
@@ -70,8 +80,7 @@ fn print_refusal(number: u64) {
 }
 
 fn print_replay(f: &[u8]) {
-    // A row of three numbers for each of the most entries that a recording may have.
-    let mut rows = [0u64; 768];
+    let mut rows = [0u64; ROWS];
     match replay(f, &mut rows) {
         Replayed::Entries(n, choice) => print_taken(&rows, n, choice),
         Replayed::Refused(number) => print_refusal(number),
@@ -79,8 +88,7 @@ fn print_replay(f: &[u8]) {
 }
 
 fn main() {
-    // One byte more than a recording may have, so that the library refuses a longer one.
-    let mut input = [0u8; 65537];
+    let mut input = [0u8; INPUT];
     let n = io::read_full(STDIN_FILENO, &mut input);
     print_replay(&input[..n]);
 }

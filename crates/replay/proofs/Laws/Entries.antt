@@ -35,7 +35,7 @@ use Rattle.replay.specs.Recording.{RecordedDatagram}
 use Rattle.replay.specs.Replay.{entryCalls, acceptedIn, firstRefusal, entryRowLength, entryRowUnless, entryRow}
 use Rattle.replay.specs.Replay.{callsOfEntries, entryRows, lastReading, choiceAtEnd}
 use Rattle.replay.specs.Steps.{itemsIn, firstRow, rowAfter, cellsOf, rowWithMore}
-use Rattle.replay.proofs.Laws.Rows.{first-number-none, row-more, row-whole}
+use Rattle.replay.proofs.Laws.Rows.{first-of-two-none, row-more, row-whole}
 
 -- ---- an item's part of the calls that are left
 
@@ -101,7 +101,7 @@ module _ (t : Table) (e : RecordedDatagram) where
       (number place : ℕ) → datagramCheck false (e .datagram) ≡ refused number place
       → Begins t e (counted (Count.Refused (refusal number place))) (firstRow (Count.Refused (refusal number place)))
   unfolding entryCalls entryRow firstRow given callsIn answersFrom acceptedIn firstRefusal
-  begins-refused number place k = rw (k, first-number-none number) (refl, refl)
+  begins-refused number place k = rw (k, first-of-two-none number) (refl, refl)
 
   pub entry-begins :
       (count : Count) → count ≡ itemCount false (e .datagram) → Begins t e (counted count) (firstRow count)

@@ -10,28 +10,28 @@ use native.Mathlib.Omega.{arith}
 use borrow.Author.Tests.{eqb-true, ne-eqb}
 use Rattle.replay.specs.declared.steps.Row.{Row}
 use Rattle.replay.specs.Replay.{acceptedIn, firstRefusal}
-use Rattle.replay.specs.Steps.{firstNumber, rowAfter, cellsOf, rowWithMore}
+use Rattle.replay.specs.Steps.{firstOfTwo, rowAfter, cellsOf, rowWithMore}
 
-pub first-number-none : (number : ℕ) → firstNumber number 0 ≡ number
-first-number-none number = go (eqb number 0) refl
+pub first-of-two-none : (number : ℕ) → firstOfTwo number 0 ≡ number
+first-of-two-none number = go (eqb number 0) refl
   where
-    go : (b : Bool) → eqb number 0 ≡ b → firstNumber number 0 ≡ number
+    go : (b : Bool) → eqb number 0 ≡ b → firstOfTwo number 0 ≡ number
     go true e = rw e (sym (eqb-true number 0 e))
     go false e = rw e refl
 
-first-number-kept : (a b : ℕ) → eqb a 0 ≡ false → firstNumber a b ≡ a
-first-number-kept a b e = rw e refl
+first-of-two-kept : (a b : ℕ) → eqb a 0 ≡ false → firstOfTwo a b ≡ a
+first-of-two-kept a b e = rw e refl
 
 -- the first of three numbers
-first-number-more : (a b c : ℕ) → firstNumber a (firstNumber b c) ≡ firstNumber (firstNumber a b) c
-first-number-more a b c = go (eqb a 0) refl
+first-of-two-more : (a b c : ℕ) → firstOfTwo a (firstOfTwo b c) ≡ firstOfTwo (firstOfTwo a b) c
+first-of-two-more a b c = go (eqb a 0) refl
   where
-    go : (t : Bool) → eqb a 0 ≡ t → firstNumber a (firstNumber b c) ≡ firstNumber (firstNumber a b) c
+    go : (t : Bool) → eqb a 0 ≡ t → firstOfTwo a (firstOfTwo b c) ≡ firstOfTwo (firstOfTwo a b) c
     go true e = rw e refl
     go false e =
-        first-number-kept a (firstNumber b c) e
-        ∙ sym (first-number-kept a c e)
-        ∙ ap (λ (n : ℕ). firstNumber n c) (sym (first-number-kept a b e))
+        first-of-two-kept a (firstOfTwo b c) e
+        ∙ sym (first-of-two-kept a c e)
+        ∙ ap (λ (n : ℕ). firstOfTwo n c) (sym (first-of-two-kept a b e))
 
 accepted-more : (t : Bool) (n m : ℕ) → n + cond t (1 + m) m ≡ cond t (n + 1) n + m
 accepted-more true n m = omega arith
@@ -44,7 +44,7 @@ module _ (row : Row) (number : ℕ) where
       number ≡ 0
       → record { items = row .items; accepted = row .accepted + 1; number = row .number } ≡ rowAfter row number
   unfolding rowAfter
-  row-accepted e = rw (e, first-number-none (row .number)) refl
+  row-accepted e = rw (e, first-of-two-none (row .number)) refl
 
   pub row-refused :
       (number ≡ 0 → ⊥) → row .number ≡ 0
@@ -67,15 +67,15 @@ row-more row number numbers =
     let after = rowAfter row number in
     let sum : row .accepted + acceptedIn (number ∷ numbers) ≡ after .accepted + acceptedIn numbers =
     accepted-more (eqb number 0) (row .accepted) (acceptedIn numbers) in
-    ap (λ (n : ℕ). row .items ∷ n ∷ firstNumber (row .number) (firstRefusal (number ∷ numbers)) ∷ []) sum
+    ap (λ (n : ℕ). row .items ∷ n ∷ firstOfTwo (row .number) (firstRefusal (number ∷ numbers)) ∷ []) sum
     ∙ ap (λ (n : ℕ). row .items ∷ (after .accepted + acceptedIn numbers) ∷ n ∷ [])
-    (first-number-more (row .number) number (firstRefusal numbers))
+    (first-of-two-more (row .number) number (firstRefusal numbers))
 
 pub row-whole : (row : Row) → rowWithMore row [] ≡ cellsOf row
 unfolding acceptedIn firstRefusal
 row-whole row =
     let sum : row .accepted + 0 ≡ row .accepted = omega arith in
-    rw (sum, first-number-none (row .number)) refl
+    rw (sum, first-of-two-none (row .number)) refl
 
 pub accepted-after : (row : Row) (number : ℕ) → rowAfter row number .accepted ≤ row .accepted + 1
 unfolding rowAfter

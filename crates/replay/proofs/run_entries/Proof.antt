@@ -143,10 +143,12 @@ element-set-from-member c = report-placed (c .before)
 row-after-requires : tie.Need-row-after-requires Inv-loop μ-loop
 row-after-requires c κs =
     let item = c .before .before .before .before .before .before .before .before .before .before in
-    omega (arith, turn item .loop .inv .few)
+    omega (arith, turn item .loop .inv .few, some item)
 
 loop-less : tie.Need-loop-less Inv-loop μ-loop
-loop-less c = omega (arith, some (c .before .before .before .before .before .before .before .before .before .before .before))
+loop-less c =
+    let item = c .before .before .before .before .before .before .before .before .before .before .before in
+    omega (arith, some item)
 
 loop-again : tie.Need-loop-again Inv-loop μ-loop
 loop-again c =
@@ -196,10 +198,12 @@ element-set-from-member-2 c = farewell-placed (c .before)
 row-after-requires-2 : tie.Need-row-after-requires-2 Inv-loop μ-loop
 row-after-requires-2 c κs =
     let item = c .before .before .before .before .before .before .before .before .before in
-    omega (arith, turn item .loop .inv .few)
+    omega (arith, turn item .loop .inv .few, some item)
 
 loop-less-2 : tie.Need-loop-less-2 Inv-loop μ-loop
-loop-less-2 c = omega (arith, some (c .before .before .before .before .before .before .before .before .before .before))
+loop-less-2 c =
+    let item = c .before .before .before .before .before .before .before .before .before .before in
+    omega (arith, some item)
 
 loop-again-2 : tie.Need-loop-again-2 Inv-loop μ-loop
 loop-again-2 c =
