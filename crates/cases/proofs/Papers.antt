@@ -16,7 +16,8 @@ use Rattle.table.specs.Choose.{choiceOf}
 use Rattle.table.specs.History.{answersFrom, tableFrom}
 use Rattle.burst.specs.Burst.{reportCalls, burstChecks, burstAnswered, burstAnswersAfter}
 use Rattle.packet.specs.Bytes.{be16, be32, be64}
-use Rattle.packet.specs.Packet.{paddingIsBad, content, kindOf, firstIsBad, headCheck}
+use Rattle.packet_checks.specs.Header.{kindOf, firstIsBad}
+use Rattle.packet.specs.Packet.{paddingIsBad, content, headCheck}
 use Rattle.packet.specs.Contents.{readable}
 use Rattle.packet.specs.Report.{blockCheck, reportAt, blockItems}
 use Rattle.datagram.specs.Walk.{walking, walk}

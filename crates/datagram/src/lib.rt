@@ -1,12 +1,12 @@
 // A whole RTCP datagram: its packets walked from the front, each checked, and the items counted. A datagram that
 // breaks a rule is refused and has no count.
 use idms::Refusal;
-use packet::Block;
 use packet::Head;
 use packet::PacketHead;
-use packet::PacketType;
 use packet::block_at;
 use packet::head_at;
+use packet_checks::Block;
+use packet_checks::PacketType;
 use refusals::BAD_LENGTH;
 ghost use mathlib.Core.Path.{_≡_};
 ghost use mathlib.Core.Bool.{true};

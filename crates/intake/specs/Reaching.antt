@@ -1,7 +1,7 @@
 -- Demand 3 of the calls that take in what was read, a whole datagram (`take_datagram`) or the item at an index
 -- (`Table::intake`): from a reached table they hand back a reached one, and what they give are the register's answers.
 -- To be believed besides: `callsIn` (Datagrams), `recordOf` (table Intake), and what reading gives (datagram Datagram
--- with what it uses of `packet`, rtcp Answers).
+-- with what it uses of `packet` and `packet_checks`, rtcp Answers).
 use Prim.Native.Nat.{ℕ, _≤_, _<_}
 use mathlib.Core.Path.{_≡_}
 use mathlib.Core.Bool.{Bool}

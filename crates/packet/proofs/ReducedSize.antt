@@ -6,11 +6,11 @@ use mathlib.Core.Bool.{Bool, true, false, not, _&&_}
 use lib.ListN.{length}
 use lib.Dec.{ltb, eqb}
 use native.Mathlib.Omega.{arith}
-use borrow.Author.Tests.{ne-eqb}
 use Rattle.refusals.specs.Refusals.{badPacket, badPadding, badFirst, shortContent}
+use Rattle.packet_checks.specs.Header.{opens, firstIsBad, contentIsShort}
+use Rattle.packet_checks.proofs.ReducedSize.{unagreed-first, agreed-first, behind-first}
 use Rattle.packet.specs.Checks.{Check, passed, refused, refuseIf}
-use Rattle.packet.specs.Packet.{version, kind, size, paddingIsBad, content, contentIsShort}
-use Rattle.packet.specs.Packet.{opens, firstIsBad, headCheck}
+use Rattle.packet.specs.Packet.{version, kind, size, paddingIsBad, content, headCheck}
 use Rattle.packet.proofs.Laws.Checks.{Refuses, passed-refuses, refuseIf-refuses}
 
 -- ---- checks 2 to 5, with check 4 as it is given
@@ -48,18 +48,6 @@ without-four first d p h =
 
 -- ---- check 4, by whether reduced size was agreed
 
-both-and : (a b c : Bool) → (a && b && c) ≡ ((a && b) && c)
-both-and true b c = refl
-both-and false b c = refl
-
-and-none : (a : Bool) → (a && false) ≡ false
-and-none true = refl
-and-none false = refl
-
-and-all : (a : Bool) → (a && true) ≡ a
-and-all true = refl
-and-all false = refl
-
 -- Where reduced size was not agreed, the checks are document 01's.
 pub unagreed-as-before :
     (d : List ℕ) (p : ℕ)
@@ -70,10 +58,8 @@ pub unagreed-as-before :
     (refuseIf (eqb p 0 && not (opens (kind d p))) badFirst p
     (refuseIf (contentIsShort (kind d p) (content d p)) shortContent p
     passed))))
-unfolding headCheck firstIsBad
-unagreed-as-before d p =
-    ap (λ (first : Bool). headWith first d p)
-    (both-and (eqb p 0) (not (opens (kind d p))) true ∙ and-all (eqb p 0 && not (opens (kind d p))))
+unfolding headCheck
+unagreed-as-before d p = ap (λ (first : Bool). headWith first d p) (unagreed-first p (kind d p))
 
 -- Where it was agreed, they are the same without 4.
 pub agreed-without-four :
@@ -84,10 +70,8 @@ pub agreed-without-four :
     (refuseIf (paddingIsBad d p) badPadding p
     (refuseIf (contentIsShort (kind d p) (content d p)) shortContent p
     passed)))
-unfolding headCheck firstIsBad
-agreed-without-four d p =
-    ap (λ (first : Bool). headWith first d p)
-    (both-and (eqb p 0) (not (opens (kind d p))) false ∙ and-none (eqb p 0 && not (opens (kind d p))))
+unfolding headCheck
+agreed-without-four d p = ap (λ (first : Bool). headWith first d p) (agreed-first p (kind d p))
 
 -- So a packet is then not refused with 4.
 pub agreed-not-four :
@@ -112,5 +96,5 @@ alike-unless-first d p h = agreed-without-four d p ∙ without-four (firstIsBad 
 
 -- Behind the first packet it makes no difference.
 pub alike-behind : (reduced : Bool) (d : List ℕ) (p : ℕ) → (p ≡ 0 → ⊥) → headCheck reduced d p ≡ headCheck true d p
-unfolding headCheck firstIsBad
-alike-behind reduced d p z = rw (ne-eqb p 0 z)
+unfolding headCheck
+alike-behind reduced d p z = rw (behind-first reduced p (kind d p) z, behind-first true p (kind d p) z)

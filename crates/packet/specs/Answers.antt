@@ -6,10 +6,10 @@ use mathlib.Core.Bool.{Bool, cond, _||_}
 use lib.ListN.{length}
 use lib.Dec.{ltb}
 use Rattle.idms.specs.declared.Report.{Report}
+use Rattle.packet_checks.specs.declared.block.Block.{Block}
 use Rattle.packet.specs.declared.header.Head.{Head}
 use Rattle.packet.specs.declared.header.PacketHead.{PacketHead}
 use Rattle.packet.specs.declared.contents.Packet.{Packet}
-use Rattle.packet.specs.declared.block.Block.{Block}
 use Rattle.packet.specs.declared.block.BlockItem.{BlockItem}
 use Rattle.packet.specs.declared.block.BlockReport.{BlockReport}
 use Rattle.packet.specs.declared.settings.PacketSettings.{PacketSettings}

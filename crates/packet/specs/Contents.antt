@@ -5,10 +5,11 @@ use mathlib.Core.List.{List}
 use mathlib.Core.Bool.{Bool, not, _&&_}
 use lib.ListN.{length}
 use lib.Dec.{leb}
-use Rattle.packet.specs.declared.kind.PacketType.{PacketType}
+use Rattle.packet_checks.specs.declared.kind.PacketType.{PacketType}
+use Rattle.packet_checks.specs.Header.{contentIsShort}
 use Rattle.packet.specs.declared.contents.Packet.{Packet}
 use Rattle.packet.specs.Bytes.{be32}
-use Rattle.packet.specs.Packet.{kind, size, content, contentIsShort}
+use Rattle.packet.specs.Packet.{kind, size, content}
 
 -- Of a BYE packet the sources, which its least content ends with; of an XR packet the sender's SSRC and the blocks
 -- behind it, which end with the content; of a settings packet that it is one, `settingsAt` being what it holds; and of

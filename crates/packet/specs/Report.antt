@@ -20,13 +20,14 @@
 --     +-+-+-+-+-+-+-+-+-+-+-+-+-+-+-+-+-+-+-+-+-+-+-+-+-+-+-+-+-+-+-+-+
 use Prim.Native.Nat.{ℕ, _+_, _*_, _/_, _%_, _^_}
 use mathlib.Core.List.{List, [], _∷_}
-use mathlib.Core.Bool.{Bool, not, cond, _&&_, _||_}
+use mathlib.Core.Bool.{Bool, cond, _&&_, _||_}
 use lib.ListN.{length}
 use lib.Dec.{ltb, eqb}
 use Rattle.idms.specs.declared.Report.{Report}
 use Rattle.idms.specs.declared.Item.{Item}
 use Rattle.idms.specs.declared.Placed.{Placed}
 use Rattle.refusals.specs.Refusals.{blockPastEnd, badBlockLength}
+use Rattle.packet_checks.specs.IdmsBlock.{idmsLengthIsBad, roleReports, presentedIf}
 use Rattle.packet.specs.Checks.{Check, passed, refuseIf}
 use Rattle.packet.specs.Bytes.{byte, be16, be32, be64}
 
@@ -46,7 +47,7 @@ blockSize d at = 4 * (blockLength d at + 1)
 unfoldable pub blockCheck : List ℕ → ℕ → ℕ → Check
 blockCheck d stop at =
     refuseIf (ltb (length d) stop || ltb stop (at + blockSize d at)) blockPastEnd at
-    (refuseIf (eqb (blockType d at) 12 && not (eqb (blockLength d at) 7)) badBlockLength at
+    (refuseIf (eqb (blockType d at) 12 && idmsLengthIsBad (blockLength d at)) badBlockLength at
     passed)
 
 abbrev pub role : List ℕ → ℕ → ℕ
@@ -67,12 +68,12 @@ reportAt d sender at =
       media = be32 d (at + 12);
       received = be64 d (at + 16);
       rtp = be32 d (at + 24);
-      presented = cond (blockP d at) (be32 d (at + 28)) 0;
+      presented = presentedIf (blockP d at) (be32 d (at + 28));
     }
 
 -- an IDMS report: block type 12 with role 1
 abbrev pub reports : List ℕ → ℕ → Bool
-reports d at = eqb (blockType d at) 12 && eqb (role d at) 1
+reports d at = eqb (blockType d at) 12 && roleReports (role d at)
 
 -- A report for each type-12 block with role 1. Other block types are skipped, and blocks with role 0 or 2 to 15 give
 -- no item.

@@ -4,24 +4,15 @@ use crate::bytes::read32;
 use crate::bytes::read64;
 use crate::bytes::saturating_sub;
 use idms::Report;
-use refusals::BAD_BLOCK_LENGTH;
+use packet_checks::Block;
+use packet_checks::idms_block;
+use packet_checks::presented;
 use refusals::BLOCK_PAST_END;
 ghost use mathlib.Core.Path.{_≡_};
-ghost use mathlib.Core.Bool.{cond};
 ghost use Prim.Native.Nat.{_+_, _≤_};
 ghost use lib.ListN.{length};
-ghost use lib.Dec.{eqb};
-ghost use Rattle.refusals.specs.Refusals.{badBlockLength};
 ghost use Rattle.packet.specs.Report.{reportAt};
 ghost use Rattle.packet.specs.Answers.{blockIs, blockItem, reportIs};
-
-// What is found at a block: a report, in the 32 bytes that check 7 has seen to; a block that gives no item, with its
-// bytes; or the number of a refusal.
-pub enum Block {
-    Report,
-    Skipped(usize),
-    Refused(u64),
-}
 
 // The fields of a report, or that the datagram does not have its 32 bytes.
 pub enum BlockReport {
@@ -34,20 +25,6 @@ pub enum BlockItem {
     Report(Report),
     Skipped(usize),
     Refused(u64),
-}
-
-// Check 7 at a block of type 12, whatever its role. It gives an item with role 1, and none with role 0 or 2 to 15.
-fn idms_block(words: usize, role: u8) -> Block
-    ensures { λ r. ⌜ r
-        ≡ cond (eqb words 7) (cond (eqb role 1) Block.Report (Block.Skipped 32)) (Block.Refused badBlockLength) ⌝ }
-{
-    if words != 7 {
-        return Block::Refused(BAD_BLOCK_LENGTH);
-    }
-    match role {
-        1 => Block::Report,
-        0 | 2..=255 => Block::Skipped(32),
-    }
 }
 
 // Checks 6 and 7 at a block, by its type. The two cases stay apart: where every block of type 12 is one branch, the
@@ -71,13 +48,6 @@ pub fn block_at(d: &[u8], at: usize, stop: usize) -> Block
         12 => idms_block(words, d[at + 1] / 16),
         0..=11 | 13..=255 => Block::Skipped(bytes),
     }
-}
-
-// The presented time, which is not looked at where P is 0.
-fn presented(p: bool, field: u32) -> u32
-    ensures { λ r. ⌜ r ≡ cond p field 0 ⌝ }
-{
-    if p { field } else { 0 }
 }
 
 // The report in the block at a place.

@@ -2,20 +2,21 @@
 use crate::bytes::read16;
 use crate::bytes::saturating_sub;
 use crate::bytes::wide;
-use crate::kind::PacketType;
-use crate::kind::is_opening;
-use crate::kind::is_short;
-use crate::kind::kind_of;
+use packet_checks::PacketType;
+use packet_checks::is_bad_count;
+use packet_checks::is_bad_first;
+use packet_checks::is_misplaced;
+use packet_checks::is_short;
+use packet_checks::kind_of;
 use refusals::BAD_FIRST;
 use refusals::BAD_PACKET;
 use refusals::BAD_PADDING;
 use refusals::SHORT_CONTENT;
 ghost use mathlib.Core.Path.{_≡_};
-ghost use mathlib.Core.Bool.{not, _||_};
-ghost use Prim.Native.Nat.{_+_, _-_, _/_, _%_, _≤_};
+ghost use Prim.Native.Nat.{_+_, _/_, _%_, _≤_};
 ghost use lib.ListN.{length};
-ghost use lib.Dec.{eqb, ltb};
-ghost use Rattle.packet.specs.Packet.{size, paddingIsBad, content, kindOf, firstIsBad};
+ghost use lib.Dec.{eqb};
+ghost use Rattle.packet.specs.Packet.{size, paddingIsBad, content};
 ghost use Rattle.packet.specs.Answers.{headOf, headIs};
 
 // What later steps use of a header. `content` counts the header and not the padding.
@@ -55,27 +56,10 @@ fn is_badly_padded(d: &[u8], p: usize, bytes: usize) -> bool
     if !is_padded(d[p]) {
         return false;
     }
-    if p == 0 {
-        return true;
-    }
-    if p + bytes != d.len() {
+    if is_misplaced(p, p + bytes, d.len()) {
         return true;
     }
     is_bad_count(d[p + bytes - 1], bytes)
-}
-
-// A count of padding bytes is a non-zero multiple of 4 that leaves the packet its first word.
-fn is_bad_count(count: u8, bytes: usize) -> bool
-    requires { ⌜ 4 ≤ bytes ⌝ }
-    ensures { λ r. ⌜ r ≡ (eqb count 0 || not (eqb (count % 4) 0) || ltb (bytes - 4) count) ⌝ }
-{
-    if count == 0 {
-        return true;
-    }
-    if count % 4 != 0 {
-        return true;
-    }
-    bytes - 4 < count as usize
 }
 
 // The packet's bytes without its padding.
@@ -87,20 +71,6 @@ fn unpadded(d: &[u8], p: usize, bytes: usize) -> usize
         return saturating_sub(bytes, wide(d[p + bytes - 1]));
     }
     bytes
-}
-
-// Check 4: the first packet is an SR or an RR, unless reduced size was agreed.
-fn is_bad_first(reduced: bool, p: usize, number: u8, count: u8) -> bool
-    ensures { λ r. ⌜ r ≡ firstIsBad reduced p (kindOf number count) ⌝ }
-{
-    if p != 0 {
-        return false;
-    }
-    let kind = kind_of(number, count);
-    if is_opening(kind) {
-        return false;
-    }
-    !reduced
 }
 
 // The header of the packet at p, which lies in the datagram.

@@ -5,10 +5,8 @@ mod block;
 mod bytes;
 mod contents;
 mod header;
-mod kind;
 mod settings;
 
-pub use block::Block;
 pub use block::BlockItem;
 pub use block::BlockReport;
 pub use block::block_at;
@@ -21,6 +19,5 @@ pub use contents::packet_at;
 pub use header::Head;
 pub use header::PacketHead;
 pub use header::head_at;
-pub use kind::PacketType;
 pub use settings::PacketSettings;
 pub use settings::settings_at;

@@ -12,7 +12,7 @@ use Rattle.idms.specs.declared.Item.{Item}
 use Rattle.idms.specs.declared.Placed.{Placed}
 use Rattle.idms.specs.declared.Report.{Report}
 use Rattle.packet.specs.declared.contents.Packet.{Packet}
-use Rattle.packet.specs.declared.block.Block.{Block}
+use Rattle.packet_checks.specs.declared.block.Block.{Block}
 use Rattle.packet.specs.declared.bytes.Source.{Source}
 use Rattle.packet.specs.Report.{reportAt}
 use Rattle.packet.specs.Settings.{settingsItem}

@@ -9,7 +9,7 @@ use Rattle.idms.specs.declared.Placed.{Placed}
 use Rattle.idms.specs.declared.Refusal.{Refusal}
 use Rattle.packet.specs.declared.header.Head.{Head}
 use Rattle.packet.specs.declared.header.PacketHead.{PacketHead}
-use Rattle.packet.specs.declared.block.Block.{Block}
+use Rattle.packet_checks.specs.declared.block.Block.{Block}
 use Rattle.packet.specs.Checks.{passed, refused}
 use Rattle.packet.specs.Packet.{size}
 use Rattle.packet.specs.Report.{blockSize, blockCheck, blockItems}

@@ -6,7 +6,7 @@ use mathlib.Core.Bool.{Bool}
 use lib.ListN.{length}
 use native.Mathlib.Omega.{arith}
 use Rattle.idms.specs.declared.Placed.{Placed}
-use Rattle.packet.specs.declared.kind.PacketType.{PacketType}
+use Rattle.packet_checks.specs.declared.kind.PacketType.{PacketType}
 use Rattle.packet.specs.declared.contents.Packet.{Packet}
 use Rattle.packet.specs.Checks.{passed, refused}
 use Rattle.packet.specs.Bytes.{be32}

@@ -6,7 +6,7 @@ use borrow.Author.Needs.{needs}
 use Rattle.datagram.specs.declared.Count.{Count}
 use Rattle.packet.specs.Packet.{count, kind}
 use Rattle.packet.specs.declared.header.Head.{Head}
-use Rattle.packet.specs.declared.kind.PacketType.{PacketType}
+use Rattle.packet_checks.specs.declared.kind.PacketType.{PacketType}
 use Rattle.datagram.proofs.Laws.Datagram.{length-sourceItems, count-of-type}
 use Rattle.packet.proofs.Laws.Contents.{type-holds, held-sources, held-blocks, readable-packet}
 use Rattle.datagram.proofs.count_content.Statement.{statement}

@@ -10,7 +10,8 @@ use borrow.Author.Tests.{ltb-false, lt-ltb, le-ltb, eqb-true, eq-eqb, ne-eqb, no
 use Rattle.idms.specs.declared.Item.{Item}
 use Rattle.idms.specs.declared.Report.{Report}
 use Rattle.refusals.specs.Refusals.{blockPastEnd, badBlockLength}
-use Rattle.packet.specs.declared.block.Block.{Block}
+use Rattle.packet_checks.specs.declared.block.Block.{Block}
+use Rattle.packet_checks.specs.IdmsBlock.{idmsLengthIsBad, roleReports, idmsBlock}
 use Rattle.packet.specs.declared.block.BlockItem.{BlockItem}
 use Rattle.packet.specs.declared.block.BlockReport.{BlockReport}
 use Rattle.packet.specs.Checks.{Check, passed, refused, refuseIf}
@@ -55,12 +56,12 @@ pub idms-words :
 unfolding blockCheck
 idms-words d stop at h twelve =
     let six : _ = check-passes (ltb (length d) stop || ltb stop (at + blockSize d at)) _ _ _ h in
-    let seven : _ = check-passes (eqb (blockType d at) 12 && not (eqb (blockLength d at) 7)) _ _ _ (six .1) in
+    let seven : _ = check-passes (eqb (blockType d at) 12 && idmsLengthIsBad (blockLength d at)) _ _ _ (six .1) in
     eqb-true (blockLength d at) 7 (not-false (eqb (blockLength d at) 7) (rw twelve at (seven .0)))
 
 pub report-words :
     (d : List ℕ) (stop at : ℕ) → blockCheck d stop at ≡ passed → reports d at ≡ true → blockLength d at ≡ 7
-report-words d stop at h e = idms-words d stop at h (and-left (eqb (blockType d at) 12) (eqb (role d at) 1) e)
+report-words d stop at h e = idms-words d stop at h (and-left (eqb (blockType d at) 12) (roleReports (role d at)) e)
 
 -- what holds of each number with the block's place holds of every refusal
 pub block-refuses :
@@ -69,7 +70,7 @@ pub block-refuses :
 unfolding blockCheck
 block-refuses P d stop at six seven =
     refuseIf-refuses P (ltb (length d) stop || ltb stop (at + blockSize d at)) _ at _ six
-    (refuseIf-refuses P (eqb (blockType d at) 12 && not (eqb (blockLength d at) 7)) _ at _ seven (passed-refuses P))
+    (refuseIf-refuses P (eqb (blockType d at) 12 && idmsLengthIsBad (blockLength d at)) _ at _ seven (passed-refuses P))
 
 -- ---- blockIs, by the first check that applies
 
@@ -84,10 +85,7 @@ module _ (d : List ℕ) (stop at : ℕ) where
     block-long h = rw (le-ltb (length d) stop l, lt-ltb stop (at + blockSize d at) h)
 
     module _ (h : at + blockSize d at ≤ stop) where
-      pub block-idms :
-          blockType d at ≡ 12
-          → blockIs d stop at
-          ≡ cond (eqb (blockLength d at) 7) (cond (eqb (role d at) 1) Block.Report (Block.Skipped 32)) (Block.Refused badBlockLength)
+      pub block-idms : blockType d at ≡ 12 → blockIs d stop at ≡ idmsBlock (blockLength d at) (role d at)
       unfolding blockIs blockCheck
       block-idms t =
           rw (le-ltb (length d) stop l, le-ltb stop (at + blockSize d at) h, eq-eqb (blockType d at) 12 t)
@@ -96,8 +94,9 @@ module _ (d : List ℕ) (stop at : ℕ) where
           go :
               (s : Bool) → eqb (blockLength d at) 7 ≡ s
               → blockUnless (refuseIf (not s) badBlockLength at passed)
-              (cond (eqb (role d at) 1) Block.Report (Block.Skipped (blockSize d at)))
-              ≡ cond s (cond (eqb (role d at) 1) Block.Report (Block.Skipped 32)) (Block.Refused badBlockLength)
+              (cond (roleReports (role d at)) Block.Report (Block.Skipped (blockSize d at)))
+              ≡ cond (not s) (Block.Refused badBlockLength)
+              (cond (roleReports (role d at)) Block.Report (Block.Skipped 32))
           go true e = rw (eqb-true (blockLength d at) 7 e)
           go false e = refl
 

@@ -8,16 +8,17 @@ use lib.Dec.{leb}
 use native.Mathlib.Omega.{arith}
 use borrow.Author.Tests.{lt-ltb, le-ltb, ltb-false, eqb-true, not-true, not-false, le-leb, lt-leb, leb-true}
 use Rattle.idms.specs.declared.Settings.{Settings}
-use Rattle.packet.specs.declared.kind.PacketType.{PacketType}
+use Rattle.packet_checks.specs.declared.kind.PacketType.{PacketType}
+use Rattle.packet_checks.specs.Header.{contentIsShort}
+use Rattle.packet_checks.proofs.Laws.Kinds.{Carries, kind-carries}
 use Rattle.packet.specs.declared.contents.Packet.{Packet}
 use Rattle.packet.specs.declared.settings.PacketSettings.{PacketSettings}
 use Rattle.packet.specs.Bytes.{be32}
-use Rattle.packet.specs.Packet.{packetType, count, kind, size, content, contentIsShort}
+use Rattle.packet.specs.Packet.{packetType, count, kind, size, content}
 use Rattle.packet.specs.Settings.{settingsAt}
 use Rattle.packet.specs.Contents.{contentsOf, contents, readable}
 use Rattle.packet.specs.Answers.{packetIs, settingsIs}
 use Rattle.packet.proofs.Laws.Bools.{and-left, and-right}
-use Rattle.packet.proofs.Laws.Kinds.{Carries, kind-carries}
 use Rattle.packet.proofs.Laws.Packet.{content-inside, Readable}
 
 -- the parts of a packet of a type, which lie in its content

@@ -1,18 +1,19 @@
 -- Laws of a packet's header: what each check says once it has passed, and the answer where one has not.
-use Prim.Native.Nat.{ℕ, _+_, _-_, _%_, _≤_, _<_}
+use Prim.Native.Nat.{ℕ, _+_, _-_, _≤_, _<_}
 use mathlib.Core.Path.{_≡_, refl, ap, _∙_}
 use mathlib.Core.List.{List}
-use mathlib.Core.Bool.{Bool, true, false, not, _||_}
+use mathlib.Core.Bool.{Bool, true, false, not}
 use lib.ListN.{length}
 use lib.Dec.{ltb, eqb}
 use native.Mathlib.Omega.{arith}
 use borrow.Author.Tests.{eq-eqb, ne-eqb, lt-ltb, le-ltb, ltb-false, eqb-true, eqb-false, not-false}
 use Rattle.refusals.specs.Refusals.{badPacket, badPadding, badFirst, shortContent}
+use Rattle.packet_checks.specs.Header.{paddingIsMisplaced, paddingCountIsBad, firstIsBad, contentIsShort}
 use Rattle.packet.specs.declared.header.Head.{Head}
 use Rattle.packet.specs.declared.header.PacketHead.{PacketHead}
 use Rattle.packet.specs.Checks.{Check, passed, refused}
-use Rattle.packet.specs.Packet.{version, padded, kind, size, padding, paddingIsBad}
-use Rattle.packet.specs.Packet.{content, contentIsShort, firstIsBad, headCheck}
+use Rattle.packet.specs.Bytes.{byte}
+use Rattle.packet.specs.Packet.{version, padded, kind, size, padding, paddingIsBad, content, headCheck}
 use Rattle.packet.specs.Answers.{headOf, headUnless, headIs}
 use Rattle.packet.proofs.Laws.Checks.{check-passes, Refuses, passed-refuses, refuseIf-refuses}
 
@@ -39,19 +40,17 @@ pub unpadded-is-fine : (d : List ℕ) (p : ℕ) → padded d p ≡ false → pad
 unfolding paddingIsBad
 unpadded-is-fine d p e = rw e
 
-pub padded-first : (d : List ℕ) (p : ℕ) → padded d p ≡ true → p ≡ 0 → paddingIsBad d p ≡ true
-unfolding paddingIsBad
-padded-first d p e z = rw (e, eq-eqb p 0 z)
+-- of a packet of `bytes` bytes with P set
+module _ (d : List ℕ) (p bytes : ℕ) (s : bytes ≡ size d p) (e : padded d p ≡ true) where
+  pub padded-misplaced : paddingIsMisplaced p (p + bytes) (length d) ≡ true → paddingIsBad d p ≡ true
+  unfolding paddingIsBad
+  padded-misplaced m = rw (e, rw s at m)
 
-pub padded-middle : (d : List ℕ) (p : ℕ) → padded d p ≡ true → (p ≡ 0 → ⊥) → (p + size d p ≡ length d → ⊥) → paddingIsBad d p ≡ true
-unfolding paddingIsBad
-padded-middle d p e z m = rw (e, ne-eqb p 0 z, ne-eqb (p + size d p) (length d) m)
-
-pub padded-last :
-    (d : List ℕ) (p : ℕ) → padded d p ≡ true → (p ≡ 0 → ⊥) → p + size d p ≡ length d
-    → paddingIsBad d p ≡ (eqb (padding d p) 0 || not (eqb (padding d p % 4) 0) || ltb (size d p - 4) (padding d p))
-unfolding paddingIsBad
-padded-last d p e z m = rw (e, ne-eqb p 0 z, eq-eqb (p + size d p) (length d) m)
+  pub padded-last :
+      paddingIsMisplaced p (p + bytes) (length d) ≡ false
+      → paddingIsBad d p ≡ paddingCountIsBad (byte d (p + bytes - 1)) bytes
+  unfolding paddingIsBad
+  padded-last m = rw (e, s, rw s at m)
 
 -- ---- headCheck, once it has passed
 

@@ -4,7 +4,7 @@ use mathlib.Core.Path.{_≡_, ap}
 use mathlib.Core.List.{List}
 use borrow.Author.Tests.{le-leb, lt-leb}
 use Rattle.packet.specs.declared.contents.Packet.{Packet}
-use Rattle.packet.specs.declared.block.Block.{Block}
+use Rattle.packet_checks.specs.declared.block.Block.{Block}
 use Rattle.packet.specs.declared.bytes.Source.{Source}
 use Rattle.packet.specs.Report.{reportAt}
 use Rattle.packet.specs.Answers.{packetIs, blockIs, sourceIs}

@@ -7,7 +7,7 @@ use native.Mathlib.Omega.{arith}
 use Rattle.idms.specs.declared.Item.{Item}
 use Rattle.idms.specs.declared.Placed.{Placed}
 use Rattle.idms.specs.declared.Report.{Report}
-use Rattle.packet.specs.declared.block.Block.{Block}
+use Rattle.packet_checks.specs.declared.block.Block.{Block}
 use Rattle.packet.specs.declared.block.BlockReport.{BlockReport}
 use Rattle.packet.specs.Checks.{passed}
 use Rattle.packet.specs.Report.{blockSize, reportAt}

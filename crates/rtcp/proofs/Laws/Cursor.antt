@@ -10,7 +10,7 @@ use native.Mathlib.Omega.{arith}
 use borrow.Author.Tests.{ltb-true, ltb-false, leb-true, leb-false}
 use Rattle.idms.specs.declared.Placed.{Placed}
 use Rattle.packet.specs.declared.contents.Packet.{Packet}
-use Rattle.packet.specs.declared.block.Block.{Block}
+use Rattle.packet_checks.specs.declared.block.Block.{Block}
 use Rattle.packet.specs.declared.bytes.Source.{Source}
 use Rattle.packet.specs.Checks.{passed}
 use Rattle.packet.specs.Bytes.{be32}

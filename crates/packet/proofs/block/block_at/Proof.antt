@@ -1,7 +1,11 @@
 -- Checks 6 and 7: each return has the law of its case.
-use mathlib.Core.Path.{sym}
+use Prim.Native.Nat.{ℕ, _+_, _*_}
+use mathlib.Core.Path.{sym, ap, _∙_}
 use native.Mathlib.Omega.{arith}
 use borrow.Author.Needs.{needs}
+use Rattle.packet_checks.specs.declared.block.Block.{Block}
+use Rattle.packet_checks.specs.IdmsBlock.{idmsBlock}
+use Rattle.packet.specs.Report.{role}
 use Rattle.packet.proofs.Laws.Blocks.{block-outside, block-long, block-idms, block-other}
 use Rattle.packet.proofs.block.block_at.Statement.{statement}
 use Rattle.packet.proofs.block.block_at.Tie as tie
@@ -56,15 +60,20 @@ idms-block-requires c κs = search needs
 returns-4 : tie.Need-returns-4
 returns-4 c =
     let m = c .before .before in
-    let b = m .before .before .before .before .before .before in
+    let w = m .before .before .before in
+    let b = w .before .before .before in
     let a = b .before .before .args in
-    let e : _ = block-idms (a .d .now) (a .stop) (a .at) (b .if1 .left) (omega arith) (m .match .keys1) in cc
+    c .idms-block .ensures
+    ∙ ap (λ (words : ℕ). idmsBlock words (role (a .d .now) (a .at))) (w .read16 .ensures .0)
+    ∙ sym (block-idms (a .d .now) (a .stop) (a .at) (b .if1 .left) (omega arith) (m .match .keys1))
 
 returns-5 : tie.Need-returns-5
 returns-5 c =
-    let b = c .before .before .before .before .before .before in
+    let w = c .before .before .before in
+    let b = w .before .before .before in
     let a = b .before .before .args in
-    let e : _ = block-other (a .d .now) (a .stop) (a .at) (b .if1 .left) (omega arith) (c .match .rest .1) in cc
+    ap (λ (words : ℕ). Block.Skipped (4 * (words + 1))) (w .read16 .ensures .0)
+    ∙ sym (block-other (a .d .now) (a .stop) (a .at) (b .if1 .left) (omega arith) (c .match .rest .1))
 
 pub block-at-spec : {M : Type 1} → statement M
 block-at-spec =

@@ -51,7 +51,19 @@ presented-requires c κs = search needs
 
 returns : tie.Need-returns
 unfolding reportAt
-returns c = cc
+returns c =
+    let f = c .before in
+    let e = f .before in
+    let d = e .before in
+    let b = d .before in
+    rw (
+      c .presented .ensures,
+      f .read324 .ensures,
+      e .read323 .ensures,
+      d .read64 .ensures,
+      b .read322 .ensures,
+      b .before .read32 .ensures,
+    )
 
 pub read-report-spec : {M : Type 1} → statement M
 read-report-spec =

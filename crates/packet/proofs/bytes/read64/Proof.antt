@@ -18,7 +18,7 @@ halves-requires c κs = search needs
 
 returns : tie.Need-returns
 unfolding be64
-returns c = cc
+returns c = rw (c .halves .ensures, c .before .read322 .ensures, c .before .before .read32 .ensures)
 
 pub read64-spec : {M : Type 1} → statement M
 read64-spec =

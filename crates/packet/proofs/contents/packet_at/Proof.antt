@@ -2,7 +2,7 @@
 use mathlib.Core.Path.{sym, ap, _∙_}
 use native.Mathlib.Omega.{arith}
 use borrow.Author.Needs.{needs}
-use Rattle.packet.specs.Packet.{contentIsShort}
+use Rattle.packet_checks.specs.Header.{contentIsShort}
 use Rattle.packet.specs.declared.header.Head.{Head}
 use Rattle.packet.proofs.Laws.Contents.{readable-there, unreadable-long, unreadable-short, packet-read, packet-unread, packet-outside}
 use Rattle.packet.proofs.contents.packet_at.Statement.{statement}

@@ -2,7 +2,7 @@
 use mathlib.Core.Path.{sym, ap, _∙_}
 use native.Mathlib.Omega.{arith}
 use borrow.Author.Needs.{needs}
-use Rattle.packet.specs.Packet.{contentIsShort}
+use Rattle.packet_checks.specs.Header.{contentIsShort}
 use Rattle.packet.specs.declared.header.PacketHead.{PacketHead}
 use Rattle.packet.specs.declared.header.Head.{Head}
 use Rattle.packet.proofs.Laws.Packet.{head-is-outside, head-is-version, head-is-long, head-is-padding, head-is-first, head-is-short, head-is-head}

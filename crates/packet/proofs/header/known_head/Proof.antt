@@ -22,7 +22,10 @@ unpadded-requires : tie.Need-unpadded-requires
 unpadded-requires c κs = search needs
 
 returns : tie.Need-returns
-returns c = cc
+returns c =
+    let w = c .before in
+    let k = w .before in
+    rw (c .unpadded .ensures, w .wide .ensures, k .kind-of .ensures, k .before .before .before .before .pre .0)
 
 pub known-head-spec : {M : Type 1} → statement M
 known-head-spec =

@@ -1,5 +1,8 @@
 -- The content, by whether P is set.
+use Prim.Native.Nat.{ℕ, _+_, _-_}
+use mathlib.Core.Path.{sym, ap, _∙_}
 use borrow.Author.Needs.{needs}
+use Rattle.packet.specs.Bytes.{byte}
 use Rattle.packet.proofs.Laws.Packet.{content-padded, content-bare}
 use Rattle.packet.proofs.header.unpadded.Statement.{statement}
 use Rattle.packet.proofs.header.unpadded.Tie as tie
@@ -27,13 +30,21 @@ saturating-sub-requires c κs = search needs
 
 returns : tie.Need-returns
 returns c =
-    let a = c .before .before .before .before .before .before .before .args in
-    let e : _ = content-padded (a .d .now) (a .p) (cc) in cc
+    let w = c .before in
+    let q = w .before .before .before in
+    let b = q .before .before .before in
+    let d = b .args .d .now in
+    let p = b .args .p in
+    c .saturating-sub .ensures
+    ∙ ap (λ (n : ℕ). b .args .bytes - n) (w .wide .ensures)
+    ∙ ap (λ (n : ℕ). n - byte d (p + n - 1)) (b .pre .0)
+    ∙ sym (content-padded d p (sym (q .is-padded .ensures) ∙ w .before .before .if1 .taken))
 
 returns-2 : tie.Need-returns-2
 returns-2 c =
-    let a = c .before .before .before .before .args in
-    let e : _ = content-bare (a .d .now) (a .p) (cc) in cc
+    let q = c .before in
+    let b = q .before .before .before in
+    b .pre .0 ∙ sym (content-bare (b .args .d .now) (b .args .p) (sym (q .is-padded .ensures) ∙ c .if1 .left))
 
 pub unpadded-spec : {M : Type 1} → statement M
 unpadded-spec =

@@ -42,7 +42,19 @@ read64-requires-2 c κs = search needs
 
 returns : tie.Need-returns
 unfolding settingsAt
-returns c = cc
+returns c =
+    let f = c .before in
+    let e = f .before in
+    let d = e .before in
+    let b = d .before in
+    rw (
+      c .read642 .ensures,
+      f .read324 .ensures,
+      e .read64 .ensures,
+      d .read323 .ensures,
+      b .read322 .ensures,
+      b .before .read32 .ensures,
+    )
 
 pub read-settings-spec : {M : Type 1} → statement M
 read-settings-spec =
