@@ -5,7 +5,7 @@
 -- and the choice is the register's. What a program prints of it is tested and not proved.
 -- To be believed besides: Recording; of Replay `entryRowLength`, `entryCalls`, `entryRowWith`, `callsOfEntries` and
 -- what they use, `callsIn` (intake Datagrams) and `recordOf` (table Intake) among it; and what reading gives (datagram
--- Datagram with what it uses of `packet`).
+-- Datagram with what it uses of `packet` and `packet_checks`).
 use Prim.Native.Nat.{ℕ, _*_, _≤_, _<_}
 use mathlib.Core.Path.{_≡_}
 use mathlib.Core.Bool.{true, false}
