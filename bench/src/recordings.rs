@@ -24,6 +24,11 @@ const PACKETS: usize = 16;
 /// Bytes of a report block.
 const BLOCK: usize = 32;
 
+/// Farewells of a datagram of 2,048 bytes, and how many such datagrams a recording has room for behind
+/// the reports of all members.
+const FAREWELLS: usize = 494;
+const OF_FAREWELLS: usize = 29;
+
 /// Altered copies of each recording on which the two have to agree as well.
 const ALTERED: usize = 1_000;
 
@@ -31,8 +36,8 @@ struct Input {
     name: &'static str,
     recording: Vec<u8>,
     entries: usize,
-    /// All of them are accepted.
-    reports: usize,
+    items: usize,
+    accepted: usize,
 }
 
 fn inputs() -> Vec<Input> {
@@ -46,6 +51,7 @@ fn inputs() -> Vec<Input> {
         full("half of them", 32_768, ENTRIES / 2),
         full("a quarter", 16_384, ENTRIES / 4),
         input("one report an entry", one_each, ENTRIES, ENTRIES),
+        twins_farewells(),
     ]
 }
 
@@ -65,7 +71,25 @@ fn input(name: &'static str, bytes: usize, entries: usize, reports: usize) -> In
         name,
         recording,
         entries,
-        reports,
+        items: reports,
+        accepted: reports,
+    }
+}
+
+/// A report of each member, then farewells of their numbers from another's address: 14.
+fn twins_farewells() -> Input {
+    let member = |entry: usize| record(entry as u32 + 1);
+    let mut sent: Vec<_> = (0..MEMBERS)
+        .map(|entry| (member(entry), datagram(&member(entry), 1, 0)))
+        .collect();
+    let farewells = (member(MEMBERS - 1), farewells(2_048));
+    sent.extend(std::iter::repeat_n(farewells, OF_FAREWELLS));
+    Input {
+        name: "twins' farewells",
+        entries: sent.len(),
+        recording: recording(sent),
+        items: MEMBERS + OF_FAREWELLS * FAREWELLS,
+        accepted: MEMBERS,
     }
 }
 
@@ -138,13 +162,14 @@ fn datagram(sent: &peer::Record, blocks: usize, surplus: usize) -> Vec<u8> {
     datagram
 }
 
-/// Panics where a report is not accepted, or not all members are counted.
+/// Panics where other items are read or accepted than were meant, or not all members are counted.
 fn assert_accepted(input: &Input) {
     let mut rows = vec![0; ROW * input.entries];
     let replayed = replay(&input.recording, &mut rows);
     assert_eq!(replayed.target.counted, MEMBERS as u32);
-    let accepted: u64 = rows.chunks(ROW).map(|row| row[1]).sum();
-    assert_eq!(accepted, input.reports as u64);
+    let sum = |column: usize| rows.chunks(ROW).map(|row| row[column]).sum::<u64>();
+    assert_eq!(sum(0), input.items as u64);
+    assert_eq!(sum(1), input.accepted as u64);
 }
 
 /// Panics where the archive and the peer differ on a recording, or on altered copies of
@@ -208,7 +233,7 @@ pub fn print() {
         "replay, 64 members",
         "bytes",
         "entries",
-        "reports",
+        "items",
         "ours ns",
         "per byte",
         "peer ns",
@@ -222,7 +247,7 @@ pub fn print() {
             "{:<24}{bytes:>8}{:>9}{:>9}{ours:>10.0}{:>10.3}{peers:>10.0}{:>10.3}{:>12.2}",
             input.name,
             input.entries,
-            input.reports,
+            input.items,
             ours / bytes as f64,
             peers / bytes as f64,
             ours / peers

@@ -28,7 +28,6 @@ use register::ReportFields;
 use search::is_held_by;
 use search::member_of;
 pub use search::place_among;
-use search::place_of;
 ghost use Prim.Native.Nat.{_<_};
 ghost use mathlib.Core.Path.{_≡_};
 ghost use Rattle.register.specs.Register.{Call};
@@ -130,8 +129,8 @@ impl Table {
         }
     }
 
-    // What a report does, at the sender's reading. The search is a loop of its own here: handed on by value, the
-    // members would be copied.
+    // What a report does, at the sender's reading. The search is a loop of its own, here and for a farewell: handed on
+    // by value, the members would be copied.
     pub fn filing(self, x: Record, at: Reading) -> Filing
         ensures { λ r. ⌜ (r ≡ filingOf self x at) × (r .place < 64) ⌝ }
     {
@@ -179,12 +178,18 @@ impl Table {
     pub fn farewell(self, source: u32, origin: Origin) -> Answered
         ensures { λ r. ⌜ r ≡ answered self (Call.farewell source origin) ⌝ }
     {
-        let held = self.held;
-        let members = self.members;
-        let found = place_of(held, members, source);
-        let there = self.members[found % 64];
-        let number = farewell_number_at(found, there, origin);
-        let f = farewell_filing(held, found, there, number);
+        let mut word = self.held;
+        let mut i: usize = 0;
+        while i < 64 {
+            if is_held_by(word, self.members[i].record.source, source) {
+                break;
+            }
+            word /= 2;
+            i += 1;
+        }
+        let there = self.members[i % 64];
+        let number = farewell_number_at(i, there, origin);
+        let f = farewell_filing(self.held, i, there, number);
         let place = f.place;
         let member = f.member;
         let mut next = self;

@@ -6,9 +6,8 @@ ghost use Prim.Native.Nat.{_<_};
 ghost use lib.Dec.{eqb};
 ghost use lib.ListN.{getD};
 ghost use Rattle.places.specs.Places.{isFree};
-ghost use Rattle.register.specs.Tallies.{recordsOf};
 ghost use Rattle.choosing.specs.Marked.{nobody};
-ghost use Rattle.table.specs.Members.{placeOf, placeAmong};
+ghost use Rattle.table.specs.Members.{placeAmong};
 
 // Whether the word's first place is held, by a member of this number.
 pub(crate) fn is_held_by(word: u64, number: u32, source: u32) -> bool
@@ -20,24 +19,8 @@ pub(crate) fn is_held_by(word: u64, number: u32, source: u32) -> bool
     number == source
 }
 
-// The place of the member with a number, which is held, or 64 where none has it.
-pub(crate) fn place_of(held: u64, members: [Member; 64], source: u32) -> usize
-    ensures { λ r. ⌜ r ≡ placeOf source held (recordsOf members) ⌝ }
-{
-    let mut word = held;
-    let mut i: usize = 0;
-    while i < 64 {
-        if is_held_by(word, members[i].record.source, source) {
-            return i;
-        }
-        word /= 2;
-        i += 1;
-    }
-    i
-}
-
-// The same among the members' source numbers alone, for a caller that keeps these beside its table: a number's place, or
-// behind the last.
+// The place of the member with a number, which is held, or behind the last where none has it, among the members' source
+// numbers alone: for a caller that keeps these beside its table.
 pub fn place_among(held: u64, sources: &[u32], source: u32) -> usize
     ensures { λ r. ⌜ r ≡ placeAmong source held (now (sources .entry)) ⌝ }
 {

@@ -1,4 +1,4 @@
--- The search, as in `search::place_of`, over a field of the table: left by its test or where the number is found, it
+-- The search, as in `search::place_among`, over a field of the table: left by its test or where the number is found, it
 -- stands at the number's place. The measure is how many places are left.
 use Prim.Native.Nat.{_-_}
 use mathlib.Core.Path.{_≡_, refl, sym, _∙_}
