@@ -745,7 +745,8 @@ __attribute__((no_sanitize("all"))) static void plant_around(const struct record
         ((volatile uint8_t *)(uintptr_t)recording->bytes)[0] = 1;
 }
 
-struct prunepocket_recording_answered __wrap_prunepocket_replay(const uint8_t *bytes, size_t length, uint64_t *rows, size_t room)
+struct prunepocket_recording_answered __wrap_prunepocket_replay(const uint8_t *bytes, size_t length, uint64_t *rows,
+                                                                size_t room)
 {
     struct recording recording = {bytes, length, rows, room};
     int is_around = ARCHIVE_FAULT == 73 || ARCHIVE_FAULT == 74 || ARCHIVE_FAULT == 85 || ARCHIVE_FAULT == 86;

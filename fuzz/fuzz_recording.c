@@ -271,7 +271,8 @@ static uint64_t row_number(const struct replayed *replayed, size_t index)
 }
 
 /* After a refusal there are no entries, and the target is zeros, as it is beside 20. */
-static void same_replayed(const struct prunepocket_recording_answered *archive, unsigned number, const struct replayed *replayed)
+static void same_replayed(const struct prunepocket_recording_answered *archive, unsigned number,
+                          const struct replayed *replayed)
 {
     static const struct choice none = {.number = NONE_TO_FOLLOW};
     const struct choice *choice = number == 0 ? &replayed->choice : &none;

@@ -54,7 +54,7 @@ newFiling held first x number =
     (record { number = 0; place = free; held = withPlace held free; member = record { «record» = x; tally = 0 } })
     (record { number = number; place = 0; held = held; member = first })
 
--- ---- a report of any number, by its place, or 64 where it has no member, and who stands there, or else at the first place
+-- ---- a report of any number, by its place, or 64 where it has no member, and who stands there or else at the first
 
 abbrev pub reportNumberAt : Opening → ℕ → ℕ → Member → Record → Reading → ℕ
 reportNumberAt o held place there x at = cond (ltb place 64) (knownNumber o there x at) (newNumber o held x at)
@@ -68,8 +68,8 @@ reportFiling held place there x number =
 abbrev pub farewellNumberAt : ℕ → Member → Origin → ℕ
 farewellNumberAt place there origin = farewellChecks (ltb place 64) (hasOtherOrigin there origin)
 
--- accepted, the place is held no more; refused with 14, that is tallied there; a number without a member leaves the first
--- place with the member there
+-- accepted, the place is held no more; refused with 14, that is tallied there; a number without a member leaves the
+-- first place with the member there
 abbrev pub farewellFiling : ℕ → ℕ → Member → ℕ → Filing
 farewellFiling held place there number =
     cond (ltb place 64)

@@ -126,7 +126,8 @@ module _ (held place : ℕ) (there : Member) (number : ℕ) where
 -- ---- a report's filing has its number, and one of the 64 places: accepted, a new member finds room
 
 pub filing-number :
-    (held place : ℕ) (there : Member) (x : Record) (number : ℕ) → reportFiling held place there x number .number ≡ number
+    (held place : ℕ) (there : Member) (x : Record) (number : ℕ) →
+    reportFiling held place there x number .number ≡ number
 filing-number held place there x number = go (ltb place 64) refl (eqb number 0) refl
   where
     go :

@@ -45,14 +45,16 @@ next-item-requires-2 c κs = search needs
 returns-2 : tie.Need-returns-2
 returns-2 c =
     let behind = c .before .before .before in
-    next-behind _ _ _ (behind .before .before .before .before .args .before) _ (ap cursorBehind (behind .before2 .given .1))
-    (behind .before .before .if1 .left) (c .next-item .ensures)
+    let known = behind .before .before in
+    next-behind _ _ _ (known .before .before .args .before) _ (ap cursorBehind (behind .before2 .given .1))
+    (known .if1 .left) (c .next-item .ensures)
 
 returns-3 : tie.Need-returns-3
 returns-3 c =
     let behind = c .before .before .before in
-    next-behind _ _ _ (behind .before .before .before .before .args .before) _
-    (ap cursorBehind (behind .enum-told .given .1) ∙ sym (c .before .first-cursor .ensures)) (behind .before .before .if1 .left)
+    let known = behind .before .before in
+    next-behind _ _ _ (known .before .before .args .before) _
+    (ap cursorBehind (behind .enum-told .given .1) ∙ sym (c .before .first-cursor .ensures)) (known .if1 .left)
     (c .next-item2 .ensures)
 
 pub next-of-spec : {M : Type 1} → statement M

@@ -1,5 +1,5 @@
--- The search, as in `Table::filing`. What the farewell does at the place where it stopped is stored, and that is what the
--- call leaves.
+-- The search, as in `Table::filing`. What the farewell does at the place where it stopped is stored, and that is what
+-- the call leaves.
 use Prim.Native.Nat.{_-_, _<_}
 use mathlib.Core.Path.{_≡_, refl, sym, _∙_}
 use mathlib.Core.Logic.{⊎-elim}
@@ -92,8 +92,8 @@ stored :
 stored c =
     let left = c .before .before .before in
     let start = left .before .before in
-    farewell-stored (start .args .t1) (start .args .source) _ _ (long start) (stopped left) refl (start .args .origin) _ _
-    (c .before .farewell-number-at .ensures) (c .farewell-filing .ensures)
+    farewell-stored (start .args .t1) (start .args .source) _ _ (long start) (stopped left) refl (start .args .origin)
+    _ _ (c .before .farewell-number-at .ensures) (c .farewell-filing .ensures)
 
 mul-member : tie.Need-mul-member Inv-loop μ-loop
 mul-member c = record { fits = omega (arith, stored (c .before) .1) }
