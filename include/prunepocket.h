@@ -532,7 +532,7 @@ struct prunepocket_recording_answered {
  * before.
  */
 struct prunepocket_recording_answered prunepocket_replay(const uint8_t *recording, size_t length,
-                                               uint64_t *rows, size_t rows_length);
+                                                         uint64_t *rows, size_t rows_length);
 
 #ifdef __cplusplus
 }

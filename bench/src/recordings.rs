@@ -27,7 +27,7 @@ const BLOCK: usize = 32;
 /// Farewells of a datagram of 2,048 bytes, and how many such datagrams a recording has room for behind
 /// the reports of all members.
 const FAREWELLS: usize = 494;
-const OF_FAREWELLS: usize = 29;
+const FAREWELL_DATAGRAMS: usize = 29;
 
 /// Altered copies of each recording on which the two have to agree as well.
 const ALTERED: usize = 1_000;
@@ -76,19 +76,19 @@ fn input(name: &'static str, bytes: usize, entries: usize, reports: usize) -> In
     }
 }
 
-/// A report of each member, then farewells of their numbers from another's address: 14.
+/// A report of each member, then farewells of the first 31 of their numbers from another's address: 14.
 fn twins_farewells() -> Input {
     let member = |entry: usize| record(entry as u32 + 1);
     let mut sent: Vec<_> = (0..MEMBERS)
         .map(|entry| (member(entry), datagram(&member(entry), 1, 0)))
         .collect();
     let farewells = (member(MEMBERS - 1), farewells(2_048));
-    sent.extend(std::iter::repeat_n(farewells, OF_FAREWELLS));
+    sent.extend(std::iter::repeat_n(farewells, FAREWELL_DATAGRAMS));
     Input {
         name: "twins' farewells",
         entries: sent.len(),
         recording: recording(sent),
-        items: MEMBERS + OF_FAREWELLS * FAREWELLS,
+        items: MEMBERS + FAREWELL_DATAGRAMS * FAREWELLS,
         accepted: MEMBERS,
     }
 }

@@ -11,15 +11,15 @@ paddingIsMisplaced p end length = eqb p 0 || not (eqb end length)
 
 -- Check 3, of a packet with P set: the count is a non-zero multiple of 4, at most the packet's bytes less 4.
 abbrev pub paddingCountIsBad : ℕ → ℕ → Bool
-paddingCountIsBad number bytes = eqb number 0 || not (eqb (number % 4) 0) || ltb (bytes - 4) number
+paddingCountIsBad count bytes = eqb count 0 || not (eqb (count % 4) 0) || ltb (bytes - 4) count
 
--- Each packet type that is looked into, with its least content, and one case for the types that are stepped over
--- unread: 200 SR, 201 RR and 203 BYE (RFC 3550), 207 XR (RFC 3611), 211 IDMS settings (RFC 7272), where it is exact.
+-- Each packet type that is looked into, with its least content: 200 SR, 201 RR and 203 BYE (RFC 3550), 207 XR (RFC
+-- 3611), 211 IDMS settings (RFC 7272), where it is exact; and one case for the types that are stepped over unread.
 unfoldable pub kindOf : ℕ → ℕ → PacketType
-kindOf type number =
-    cond (eqb type 200) (PacketType.Sr (28 + 24 * number))
-    (cond (eqb type 201) (PacketType.Rr (8 + 24 * number))
-    (cond (eqb type 203) (PacketType.Bye (4 + 4 * number))
+kindOf type count =
+    cond (eqb type 200) (PacketType.Sr (28 + 24 * count))
+    (cond (eqb type 201) (PacketType.Rr (8 + 24 * count))
+    (cond (eqb type 203) (PacketType.Bye (4 + 4 * count))
     (cond (eqb type 207) (PacketType.Xr 8)
     (cond (eqb type 211) (PacketType.Settings 36)
     PacketType.Other))))

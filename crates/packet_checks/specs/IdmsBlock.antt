@@ -5,7 +5,7 @@ use lib.Dec.{eqb}
 use Rattle.refusals.specs.Refusals.{badBlockLength}
 use Rattle.packet_checks.specs.declared.block.Block.{Block}
 
--- check 7: its length is 7 words after its first, whatever its role
+-- check 7: its length is other than 7 words after its first, whatever its role
 abbrev pub idmsLengthIsBad : ℕ → Bool
 idmsLengthIsBad words = not (eqb words 7)
 
@@ -17,7 +17,8 @@ roleReports role = eqb role 1
 abbrev pub presentedIf : Bool → ℕ → ℕ
 presentedIf p field = cond p field 0
 
--- what is answered of such a block: check 7, then whether it gives an item
+-- what is answered of such a block: check 7, then whether it gives an item; one that gives none is stepped over with its
+-- 32 bytes
 abbrev pub idmsBlock : ℕ → ℕ → Block
 idmsBlock words role =
     cond (idmsLengthIsBad words)

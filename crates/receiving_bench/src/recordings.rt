@@ -83,7 +83,6 @@ fn target_line(came: Replayed, origin: Origin) -> Line {
 
 // What came of a step that replays the first so many bytes.
 pub(crate) fn replay_step(line: Line, recording: &[u8], recorded: usize) -> Line {
-    // A row of three numbers for each of the most entries that a recording may have.
     let mut rows = [0u64; ROWS];
     let n = least(recorded, recording.len());
     let came = replay(&recording[0..n], &mut rows);

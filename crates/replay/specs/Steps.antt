@@ -1,4 +1,5 @@
--- What the code holds while it takes an entry: where its body lies, how many of its items are left, and its row so far.
+-- What the code holds while it takes an entry: where its body lies, the step before, how many of its items are left, and
+-- its row so far.
 use Prim.Native.Nat.{ℕ, _+_, _-_}
 use mathlib.Core.List.{List, [], _∷_}
 use mathlib.Core.Bool.{cond}
@@ -24,7 +25,7 @@ datagramOf f entry = take (entry .end - entry .body) (drop (entry .body) f)
 
 -- ---- its items
 
--- where the one behind a step starts; behind an end, which is that of the entry before, the first of all
+-- where the item behind a step starts; behind an end an entry begins, with the first of its items
 abbrev pub cursorBehind : Step → Cursor
 cursorBehind (Step.Item x next) = next
 cursorBehind Step.End = start

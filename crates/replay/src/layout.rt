@@ -2,7 +2,7 @@
 use origin::Origin;
 use register::Reading;
 ghost use mathlib.Core.Path.{_≡_};
-ghost use Prim.Native.Nat.{_+_, _*_, _≤_, _<_, _^_};
+ghost use Prim.Native.Nat.{_+_, _*_, _≤_, _^_};
 ghost use lib.ListN.{length, take, drop};
 ghost use Rattle.packet.specs.Bytes.{fromBytes, be16, be32, be64};
 ghost use Rattle.replay.specs.Recording.{entrySize, entryPlace, entryLimit, bodiesEnd};

@@ -43,7 +43,7 @@ pub enum Replayed {
     Refused(u64),
 }
 
-// The numbers of an entry's row.
+// How many numbers an entry's row has.
 pub const ENTRY_ROW: usize = 3;
 
 // Every item of every entry into the table, in order, and each entry's row to its place; then the choice. It is one
@@ -77,7 +77,7 @@ fn run_entries(t: Table, f: &[u8], n: usize, rows: &mut [u64]) -> Choice
                     Item::Report(report) => {
                         let record = record_of(report, origin);
                         let found = place_among(table.held, &sources, record.source);
-                        // The first place where no member was found, as the filings ask.
+                        // Where no member was found, the first place, as the filings ask.
                         let there = table.members[found % 64];
                         let number = report_number_at(
                             table.group,

@@ -31,8 +31,8 @@ pub(crate) fn count_entry(f: &[u8], entry: Listed) -> Count
     count_items(&f[body..end], false)
 }
 
-// The next item of an entry's datagram, of which so many are left. The step before says where it starts; before the
-// first item that is the end of the entry before.
+// The next item of an entry's datagram, of which so many are left. The step before says where it starts; before an
+// entry's first item that is an end.
 pub(crate) fn next_of(f: &[u8], entry: Listed, left: usize, before: Step) -> Step
     requires { ⌜ (entry .body ≤ entry .end) × (entry .end ≤ length (now f)) ⌝ }
     ensures { λ r. ⌜ r ≡ nextIn (datagramOf (now (f .entry)) entry) left (cursorBehind before) ⌝ }

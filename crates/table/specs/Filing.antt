@@ -1,5 +1,5 @@
--- What a report or a farewell does to a table, as one place: its number, the place, the member that stands there
--- afterwards, and the word of places held. Where a call changes nothing, it is the member from before.
+-- What a report or a farewell does to a table, which is a change of one place at most: its number, the place, the member
+-- that stands there afterwards, which is the one from before where the call changes nothing, and the word of places held.
 use Prim.Native.Nat.{ℕ}
 use mathlib.Core.Bool.{Bool, false, not, cond}
 use lib.Dec.{ltb, eqb}
@@ -18,14 +18,14 @@ use Rattle.table.specs.declared.Table.{Table}
 use Rattle.table.specs.declared.filing.Filing.{Filing}
 use Rattle.table.specs.Members.{openingOf, placeIn}
 
--- the member at a source number's place after a report that got an answer: 14 is tallied, and any other refusal leaves
--- it as it was
+-- the member at a source number's place after a report that got a number, or, x being its own record, after a farewell
+-- that was refused: 14 is tallied, and any other refusal leaves it as it was
 abbrev pub memberAfter : Member → Record → ℕ → Member
 memberAfter there x number =
     cond (eqb number otherOrigin) (record { «record» = there .«record»; tally = raised (there .tally) })
     (cond (eqb number 0) (record { «record» = x; tally = there .tally }) there)
 
--- ---- a number with a member, which stands at a place
+-- ---- a report of a source number with a member, which stands at a place
 
 -- its origin is another
 abbrev pub hasOtherOrigin : Member → Origin → Bool
@@ -38,7 +38,7 @@ abbrev pub knownFiling : ℕ → ℕ → Member → Record → ℕ → Filing
 knownFiling held place there x number =
     record { number = number; place = place; held = held; member = memberAfter there x number }
 
--- ---- a number without a member
+-- ---- a report of a source number without a member
 
 abbrev pub isFull : ℕ → Bool
 isFull held = eqb (lowestFree 64 held) 64
@@ -54,7 +54,8 @@ newFiling held first x number =
     (record { number = 0; place = free; held = withPlace held free; member = record { «record» = x; tally = 0 } })
     (record { number = number; place = 0; held = held; member = first })
 
--- ---- a report of any number, by its place, or 64 where it has no member, and who stands there or else at the first
+-- ---- a report of any source number, by its place, or 64 where it has no member, and who stands there or else at the
+-- first place
 
 abbrev pub reportNumberAt : Opening → ℕ → ℕ → Member → Record → Reading → ℕ
 reportNumberAt o held place there x at = cond (ltb place 64) (knownNumber o there x at) (newNumber o held x at)
@@ -83,6 +84,7 @@ farewellFiling held place there number =
 abbrev pub memberThere : Table → ℕ → Member
 memberThere t place = getD (t .members) (cond (ltb place 64) place 0) nobody
 
+-- what a report does
 unfoldable pub filingOf : Table → Record → Reading → Filing
 filingOf t x at =
     let place = placeIn t (x .source) in

@@ -27,13 +27,14 @@ pub struct Filing {
 }
 
 // Whether a member has another origin.
-fn is_elsewhere(there: Member, origin: Origin) -> bool
+fn has_other_origin(there: Member, origin: Origin) -> bool
     ensures { λ r. ⌜ r ≡ hasOtherOrigin there origin ⌝ }
 {
     !same_origin(there.record.origin, origin)
 }
 
-// The member at a source number's place after a report that got this number: 14 is tallied there.
+// The member at a source number's place after a report that got this number, or after a farewell that was refused, with
+// its own record: 14 is tallied there.
 fn member_after(there: Member, x: Record, number: u64) -> Member
     ensures { λ r. ⌜ r ≡ memberAfter there x number ⌝ }
 {
@@ -69,7 +70,7 @@ pub fn report_number_at(
         let free = lowest_free(held);
         return report_number(group, media, rate, x, at, false, free == 64);
     }
-    let elsewhere = is_elsewhere(there, x.origin);
+    let elsewhere = has_other_origin(there, x.origin);
     report_number(group, media, rate, x, at, elsewhere, false)
 }
 
@@ -113,7 +114,7 @@ pub fn farewell_number_at(place: usize, there: Member, origin: Origin) -> u64
     if 64 <= place {
         return NO_MEMBER;
     }
-    if is_elsewhere(there, origin) {
+    if has_other_origin(there, origin) {
         return OTHER_ORIGIN;
     }
     0

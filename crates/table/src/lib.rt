@@ -143,7 +143,7 @@ impl Table {
             word /= 2;
             i += 1;
         }
-        // The first place where no member was found.
+        // Where no member was found, the first place.
         let there = self.members[i % 64];
         let number = report_number_at(
             self.group,

@@ -1,6 +1,6 @@
 -- The blocks of an XR packet that have passed, one by one, by what is found at each.
 use Prim.Native.Nat.{ℕ, _+_, _≤_, _<_}
-use mathlib.Core.Path.{_≡_, sym, ap, _∙_}
+use mathlib.Core.Path.{_≡_, ap, _∙_}
 use mathlib.Core.List.{List, _∷_, _++_}
 use lib.ListN.{length}
 use native.Mathlib.Omega.{arith}

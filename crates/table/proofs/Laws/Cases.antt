@@ -1,13 +1,13 @@
 -- What each return of a call answers, from the tests that led there.
 use Prim.Native.Nat.{ℕ, _≤_, _<_}
-use mathlib.Core.Bool.{Bool, true, false, cond, _&&_, and-eq-true-iff}
+use mathlib.Core.Bool.{Bool, true, false, cond, _&&_}
 use mathlib.Core.Path.{_≡_, refl, sym, ap, _∙_}
 use mathlib.Core.List.{[], _∷_}
 use mathlib.Core.Logic.{⊎-elim}
-use lib.Dec.{ltb, eqb}
+use lib.Dec.{eqb}
 use lib.ListN.{getD, set}
 use native.Mathlib.Omega.{arith}
-use borrow.Author.Tests.{eqb-false, ne-eqb, ltb-true, lt-ltb, le-ltb}
+use borrow.Author.Tests.{eqb-false, ne-eqb, lt-ltb, le-ltb}
 use denote.Enum.Declared.{tagOf}
 use types.Run.{OneOf}
 use Rattle.idms.proofs.Item.{the-type}
@@ -21,9 +21,9 @@ use Rattle.places.specs.Places.{holdsPlace, lowestFree, withPlace, withoutPlace
 use Rattle.register.specs.declared.Record.{Record}
 use Rattle.register.specs.declared.Member.{Member}
 use Rattle.register.specs.declared.Reading.{Reading}
-use Rattle.register.specs.Register.{Opening, Rows, Call, isRefusedOpening, presents, isOtherStream}
+use Rattle.register.specs.Register.{Opening, Call, isRefusedOpening, presents, isOtherStream}
 use Rattle.register.specs.Register.{reportChecks, farewellChecks}
-use Rattle.register.specs.Tallies.{Members, raised}
+use Rattle.register.specs.Tallies.{Members}
 use Rattle.register.proofs.Stands.{accepted-room}
 use Rattle.register.proofs.Tallies.{rows-set}
 use Rattle.choosing.specs.Marked.{nowhere, nobody}

@@ -9,22 +9,22 @@ returns c =
     let args = c .before .args in
     farewell-number-none (args .place) (args .there) (args .origin) (c .if1 .taken)
 
-is-elsewhere-requires : tie.Need-is-elsewhere-requires
-is-elsewhere-requires c κs = search needs
+has-other-origin-requires : tie.Need-has-other-origin-requires
+has-other-origin-requires c κs = search needs
 
 returns-2 : tie.Need-returns-2
 returns-2 c =
     let known = c .before .before in
     let args = known .before .args in
     farewell-number-other (args .place) (args .there) (args .origin) _ (known .if1 .left)
-    (c .before .is-elsewhere .ensures) (c .if2 .taken)
+    (c .before .has-other-origin .ensures) (c .if2 .taken)
 
 returns-3 : tie.Need-returns-3
 returns-3 c =
     let known = c .before .before in
     let args = known .before .args in
     farewell-number-same (args .place) (args .there) (args .origin) _ (known .if1 .left)
-    (c .before .is-elsewhere .ensures) (c .if2 .left)
+    (c .before .has-other-origin .ensures) (c .if2 .left)
 
 pub farewell-number-at-spec : {M : Type 1} → statement M
-farewell-number-at-spec = tie.close (tie.spec returns is-elsewhere-requires returns-2 returns-3)
+farewell-number-at-spec = tie.close (tie.spec returns has-other-origin-requires returns-2 returns-3)

@@ -18,8 +18,8 @@ returns c =
     number-new _ (args .held) (args .place) (args .there) (args .x) (args .at) _ _ _ (called .before .if1 .taken)
     (called .lowest-free .ensures .0) refl (c .report-number .ensures)
 
-is-elsewhere-requires : tie.Need-is-elsewhere-requires
-is-elsewhere-requires c κs = search needs
+has-other-origin-requires : tie.Need-has-other-origin-requires
+has-other-origin-requires c κs = search needs
 
 report-number-requires-2 : tie.Need-report-number-requires-2
 report-number-requires-2 c κs = search needs
@@ -29,7 +29,7 @@ returns-2 c =
     let called = c .before in
     let args = called .before .before .args in
     number-known _ (args .held) (args .place) (args .there) (args .x) (args .at) _ _ (called .before .if1 .left)
-    (called .is-elsewhere .ensures) (c .report-number2 .ensures)
+    (called .has-other-origin .ensures) (c .report-number2 .ensures)
 
 pub report-number-at-spec : {M : Type 1} → statement M
 report-number-at-spec =
@@ -38,6 +38,6 @@ report-number-at-spec =
     lowest-free-requires
     report-number-requires
     returns
-    is-elsewhere-requires
+    has-other-origin-requires
     report-number-requires-2
     returns-2)
