@@ -74,7 +74,8 @@ pub fn report_number_at(
     report_number(group, media, rate, x, at, elsewhere, false)
 }
 
-// What a report does that got this number, by the same place, and who stands there or else at the first place.
+// What a report does that got this number, by the same place, and who stands there or else at the first place. With the
+// number that `report_number_at` gives, it is at one of the 64 places.
 pub fn report_filing(held: u64, place: usize, there: Member, x: Record, number: u64) -> Filing
     ensures { λ r. ⌜ r ≡ reportFiling held place there x number ⌝ }
 {
