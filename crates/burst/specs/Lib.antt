@@ -1,3 +1,4 @@
 pub mod Burst
 pub mod Singles
 pub mod Reaching
+pub mod ArrivalOrder

@@ -1,6 +1,6 @@
--- The bench cases of document 01 that are marked P, and those of document 02, E3, E5, E6 and E7, as one list of
+-- The bench cases of document 01 that are marked P, and those of document 02, E3, E5, E6, E7 and E8, as one list of
 -- statements about the definitions.
-use Prim.Native.Nat.{ℕ, _+_, _-_, _*_, _^_}
+use Prim.Native.Nat.{ℕ, zero, suc, _+_, _-_, _*_, _^_}
 use mathlib.Core.Bool.{false}
 use mathlib.Core.List.{List, [], _∷_}
 use mathlib.Core.Path.{_≡_}
@@ -24,6 +24,7 @@ use Rattle.table.specs.Members.{placeAt}
 use Rattle.table.specs.Calls.{opened, withMember, answered}
 use Rattle.table.specs.Choose.{choiceOf}
 use Rattle.table.specs.History.{answersFrom, tableFrom}
+use Rattle.table.specs.ArrivalOrder.{AlikeButPlaces}
 use Rattle.burst.specs.Burst.{burstAnswered, burstAnswersAfter}
 use Rattle.replay.specs.declared.Replayed.{Replayed}
 use Rattle.replay.specs.Replay.{replayed, replayedRows}
@@ -72,9 +73,12 @@ ten = reportBy 10 (seconds 999) 8910000 0x03E78000
 abbrev pub twenty : Record
 twenty = reportBy 20 (seconds 998) 8820000 0x03E6C000
 
--- the table after two reports, one after the other
+-- two reports in turn, and the table after them
+abbrev pub inTurn : Record → Record → List Call
+inTurn x y = Call.report x reading ∷ Call.report y reading ∷ []
+
 abbrev pub holding : Record → Record → Table
-holding x y = tableFrom (opened opening .table) (Call.report x reading ∷ Call.report y reading ∷ [])
+holding x y = tableFrom (opened opening .table) (inTurn x y)
 
 abbrev pub target : (source received rtp presented counted : ℕ) → Choice
 target source received rtp presented counted =
@@ -365,11 +369,63 @@ E7Example =
     × (replayed (take 175 exampleRecording) (replicate 7 99) ≡ Replayed.Refused 25)
     × (replayed exampleRecording (replicate 5 99) ≡ Replayed.Refused 10)
 
+-- document 02, E8: the reports of P1 and P2 in either order are accepted; their places differ, and all else agrees
+abbrev pub E8EitherOrder : Type 0
+E8EitherOrder =
+    (answersFrom (opened opening .table) (inTurn ten twenty) ≡ 0 ∷ 0 ∷ [])
+    × (placeAt (holding ten twenty) 0 ≡ placeWith ten 0)
+    × (placeAt (holding ten twenty) 1 ≡ placeWith twenty 0)
+    × (answersFrom (opened opening .table) (inTurn twenty ten) ≡ 0 ∷ 0 ∷ [])
+    × (placeAt (holding twenty ten) 0 ≡ placeWith twenty 0)
+    × (placeAt (holding twenty ten) 1 ≡ placeWith ten 0)
+    × AlikeButPlaces (holding ten twenty) (holding twenty ten)
+
+-- P4's tie in the other order: 10 is chosen at the second place too
+abbrev pub E8Tie : Type 0
+E8Tie =
+    (placeAt (holding twenty tenLater) 1 ≡ placeWith tenLater 0)
+    × (choiceOf (holding twenty tenLater) reading ≡ target 10 (seconds 999) 8910000 (seconds 999 + 0xC0000000) 2)
+
+-- each report with its own reading: P1's, and one of 30 s later. With the readings exchanged, both get 15.
+abbrev pub E8OwnReadings : Type 0
+E8OwnReadings =
+    (answersFrom (opened opening .table) (Call.report ten reading ∷ Call.report (reportLater 20) later ∷ [])
+    ≡ 0 ∷ 0 ∷ [])
+    × (answersFrom (opened opening .table) (Call.report (reportLater 20) later ∷ Call.report ten reading ∷ [])
+    ≡ 0 ∷ 0 ∷ [])
+    × (answersFrom (opened opening .table) (Call.report (reportLater 20) reading ∷ Call.report ten later ∷ [])
+    ≡ 15 ∷ 15 ∷ [])
+
+-- the reports of so many other units, of P1's times
+unfoldable pub unitCalls : ℕ → List Call
+unitCalls zero = []
+unitCalls (suc n) = Call.report (reportBy (101 + n) (seconds 999) 8910000 0x03E78000) reading ∷ unitCalls n
+
+-- a table with 63 members: one place is left
+abbrev pub onePlaceLeft : Table
+onePlaceLeft = tableFrom (opened opening .table) (unitCalls 63)
+
+-- that both are accepted is needed: behind 63 members the second of two new ones gets 18, and the tables differ in more
+-- than places
+abbrev pub E8OnePlaceLeft : Type 0
+E8OnePlaceLeft =
+    (answersFrom onePlaceLeft (inTurn ten twenty) ≡ 0 ∷ 18 ∷ [])
+    × (answersFrom onePlaceLeft (inTurn twenty ten) ≡ 0 ∷ 18 ∷ [])
+    × (AlikeButPlaces (tableFrom onePlaceLeft (inTurn ten twenty)) (tableFrom onePlaceLeft (inTurn twenty ten)) → ⊥)
+
+-- and so are different source numbers: of two reports of one unit the last stands
+abbrev pub E8OneNumber : Type 0
+E8OneNumber =
+    (answersFrom (opened opening .table) (inTurn ten tenLater) ≡ 0 ∷ 0 ∷ [])
+    × (answersFrom (opened opening .table) (inTurn tenLater ten) ≡ 0 ∷ 0 ∷ [])
+    × (AlikeButPlaces (holding ten tenLater) (holding tenLater ten) → ⊥)
+
 -- all of them
 unfoldable pub papers : List (Type 0)
 papers =
     P1 ∷ P2 ∷ P3 ∷ P4 ∷ P5 ∷ P6 ∷ P7 ∷ P8 ∷ P9 ∷ P10 ∷ E3Wired ∷ E3Chosen ∷ E3AllOnes
-    ∷ E5Tallied ∷ E5Rejoined ∷ E5Limit ∷ E6Twins ∷ E7Example ∷ []
+    ∷ E5Tallied ∷ E5Rejoined ∷ E5Limit ∷ E6Twins ∷ E7Example
+    ∷ E8EitherOrder ∷ E8Tie ∷ E8OwnReadings ∷ E8OnePlaceLeft ∷ E8OneNumber ∷ []
 
 -- every statement of a list is true
 unfoldable pub AllHold : List (Type 0) → Type 0

@@ -32,6 +32,7 @@ use Rattle.table.specs.Intake.{taken}
 use Rattle.table.specs.History.{answersFrom, tableFrom}
 use Rattle.intake.specs.declared.DatagramAnswered.{DatagramAnswered}
 use Rattle.table.specs.Numbers.{numbersInto}
+use Rattle.table.proofs.Agreement.Theorem.{length-answersFrom}
 use Rattle.intake.specs.Datagrams.{callsOf, callsIn, datagramAnswered, answersAfter}
 use Rattle.intake.specs.Steps.{callsOfItem, callCount, numbersOf}
 
@@ -120,11 +121,6 @@ module _ (t : Table) (origin : Origin) (at : Reading) (calls : List Call) where
   length-item (Item.Report r) = omega arith
   length-item (Item.Farewell source) = omega arith
   length-item (Item.Settings s) = omega arith
-
-length-answersFrom : (t : Table) (calls : List Call) → length (answersFrom t calls) ≡ length calls
-unfolding answersFrom
-length-answersFrom t [] = refl
-length-answersFrom t (call ∷ calls) = ap suc (length-answersFrom (answered t call .table) calls)
 
 -- ---- stores, one run behind another
 

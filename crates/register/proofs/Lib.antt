@@ -7,4 +7,5 @@ pub mod Tallies
 pub mod Permuted
 pub mod Stands
 pub mod Promised
+pub mod ArrivalOrder
 pub mod Vectors

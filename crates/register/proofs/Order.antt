@@ -7,7 +7,7 @@ use mathlib.Core.Path.{_≡_, refl, sym, ap, subst, _∙_}
 use lib.Dec.{T, leb, ltb}
 use lib.IntN.{ℤ, pos, negsuc, negℤ, subℕ, _+ℤ_, _*ℤ_}
 use lib.Signed.{leZ, ltZ, _≤ℤ_, leZ-yes, ≤ℤ-refl}
-use native.Mathlib.Nat.{le-refl, le-trans}
+use native.Mathlib.Nat.{le-refl}
 use native.Mathlib.Omega.{arith}
 use borrow.Author.Tests.{ltb-true, ltb-false, leb-true, leb-false, lt-ltb, le-ltb, le-leb, lt-leb}
 use Rattle.register.specs.declared.Record.{Record}
@@ -175,34 +175,50 @@ pub ≤ℤ-shift : {a b : ℤ} (k : ℤ) → a ≤ℤ b → (a +ℤ k) ≤ℤ (b
 
 -- ---- precedes
 
+-- a number no higher, as a test and as what it tells
+abbrev isNoHigher : Record → Record → Bool
+isNoHigher a b = leb (a .source) (b .source)
+
+abbrev NoHigher : Record → Record → Type 0
+NoHigher a b = a .source ≤ b .source
+
+no-higher : (a b : Record) → isNoHigher a b ≡ true → NoHigher a b
+no-higher a b e = leb-true (a .source) (b .source) e
+
+is-no-higher : (a b : Record) → NoHigher a b → isNoHigher a b ≡ true
+is-no-higher a b h = le-leb (a .source) (b .source) h
+
+lower : (a b : Record) → isNoHigher a b ≡ false → NoHigher b a
+lower a b e = omega (arith, leb-false (a .source) (b .source) e)
+
 precedes-tests :
     (late : Record → ℤ) (a b : Record) →
-    precedes late a b ≡ (not (leZ (late a) (late b)) || (leZ (late b) (late a) && leb (a .source) (b .source)))
+    precedes late a b ≡ (not (leZ (late a) (late b)) || (leZ (late b) (late a) && isNoHigher a b))
 precedes-tests late a b =
-    ap (λ (t : Bool). t || (leZ (late b) (late a) && leb (a .source) (b .source))) (ltZ-not-leZ (late b) (late a))
+    ap (λ (t : Bool). t || (leZ (late b) (late a) && isNoHigher a b)) (ltZ-not-leZ (late b) (late a))
 
--- at least as late, and as late only with a number as low
+-- at least as late, and as late only with a number no higher
 pub precedes-true :
     (late : Record → ℤ) (a b : Record) → precedes late a b ≡ true →
-    (late b ≤ℤ late a) × (late a ≤ℤ late b → a .source ≤ b .source)
+    (late b ≤ℤ late a) × (late a ≤ℤ late b → NoHigher a b)
 precedes-true late a b e = go (leZ (late a) (late b)) refl
   where
-    go : (t : Bool) → leZ (late a) (late b) ≡ t → (late b ≤ℤ late a) × (late a ≤ℤ late b → a .source ≤ b .source)
+    go : (t : Bool) → leZ (late a) (late b) ≡ t → (late b ≤ℤ late a) × (late a ≤ℤ late b → NoHigher a b)
     go true p =
         let both : _ = rw p at (sym (precedes-tests late a b) ∙ e) in
-        let q : _ = and-eq-true-iff (leZ (late b) (late a)) (leb (a .source) (b .source)) .0 both in
-        (leZ-≤ℤ (q .0), λ h. leb-true (a .source) (b .source) (q .1))
+        let q : _ = and-eq-true-iff (leZ (late b) (late a)) (isNoHigher a b) .0 both in
+        (leZ-≤ℤ (q .0), λ h. no-higher a b (q .1))
     go false p = (≤ℤ-total (late a) (late b) p, λ h. absurd (false≢true (sym p ∙ ≤ℤ-leZ h)))
 
 pub true-precedes :
-    (late : Record → ℤ) (a b : Record) → late b ≤ℤ late a → (late a ≤ℤ late b → a .source ≤ b .source) →
+    (late : Record → ℤ) (a b : Record) → late b ≤ℤ late a → (late a ≤ℤ late b → NoHigher a b) →
     precedes late a b ≡ true
 true-precedes late a b more low = precedes-tests late a b ∙ go (leZ (late a) (late b)) refl
   where
     go :
         (t : Bool) → leZ (late a) (late b) ≡ t →
-        (not (leZ (late a) (late b)) || (leZ (late b) (late a) && leb (a .source) (b .source))) ≡ true
-    go true p = rw (p, ≤ℤ-leZ more) (le-leb (a .source) (b .source) (low (leZ-≤ℤ p)))
+        (not (leZ (late a) (late b)) || (leZ (late b) (late a) && isNoHigher a b)) ≡ true
+    go true p = rw (p, ≤ℤ-leZ more) (is-no-higher a b (low (leZ-≤ℤ p)))
     go false p = rw p refl
 
 pub precedes-refl : (late : Record → ℤ) (a : Record) → precedes late a a ≡ true
@@ -215,21 +231,19 @@ precedes-trans late a b c p q =
     let ab : _ = precedes-true late a b p in
     let bc : _ = precedes-true late b c q in
     true-precedes late a c (≤ℤ-trans (bc .0) (ab .0))
-    (λ h. le-trans (ab .1 (≤ℤ-trans h (bc .0))) (bc .1 (≤ℤ-trans (ab .0) h)))
+    (λ h. omega (arith, ab .1 (≤ℤ-trans h (bc .0)), bc .1 (≤ℤ-trans (ab .0) h)))
 
 pub precedes-total : (late : Record → ℤ) (a b : Record) → precedes late a b ≡ false → precedes late b a ≡ true
 precedes-total late a b e =
-    true-precedes late b a (as-late (leZ (late a) (late b)) refl)
-    (λ more. low more (leb (a .source) (b .source)) refl)
+    true-precedes late b a (as-late (leZ (late a) (late b)) refl) (λ more. low more (isNoHigher a b) refl)
   where
     as-late : (t : Bool) → leZ (late a) (late b) ≡ t → late a ≤ℤ late b
     as-late true p = leZ-≤ℤ p
     as-late false p = absurd (true≢false (rw p at (sym (precedes-tests late a b) ∙ e)))
 
-    low : late b ≤ℤ late a → (t : Bool) → leb (a .source) (b .source) ≡ t → b .source ≤ a .source
-    low more true q =
-        absurd (false≢true (sym e ∙ true-precedes late a b more (λ h. leb-true (a .source) (b .source) q)))
-    low more false q = omega (arith, leb-false (a .source) (b .source) q)
+    low : late b ≤ℤ late a → (t : Bool) → isNoHigher a b ≡ t → NoHigher b a
+    low more true q = absurd (false≢true (sym e ∙ true-precedes late a b more (λ h. no-higher a b q)))
+    low more false q = lower a b q
 
 pub precedesAll-trans :
     (late : Record → ℤ) (a b : Record) (rows : Rows) → precedes late a b ≡ true → precedesAll late b rows ≡ true →

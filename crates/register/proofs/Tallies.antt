@@ -20,7 +20,7 @@ use Rattle.register.proofs.Letter.Lines.{tells-any}
 
 -- ---- rows
 
-rows-with : (tally : ℕ → ℕ) (rows : Rows) → recordsOf (withTallies tally rows) ≡ rows
+pub rows-with : (tally : ℕ → ℕ) (rows : Rows) → recordsOf (withTallies tally rows) ≡ rows
 unfolding recordsOf withTallies
 rows-with tally [] = refl
 rows-with tally (row ∷ rows) = ap (λ (rest : Rows). row ∷ rest) (rows-with tally rows)
@@ -84,7 +84,7 @@ tally-none (m ∷ ms) source e =
     rw (both .0) (tally-none ms source (both .1))
 
 -- the one that is given to its row
-tally-with :
+pub tally-with :
     (tally : ℕ → ℕ) (rows : Rows) (source : ℕ) → any (hasNumber source) rows ≡ true →
     tallyIn (withTallies tally rows) source ≡ tally source
 unfolding tallyIn withTallies any
@@ -167,7 +167,7 @@ with-rows tally (m ∷ ms) each =
     (ap (λ (n : ℕ). record { «record» = m .«record»; tally = n }) (each m (List·Memᴰ·head refl)))
     (with-rows tally ms (λ x z. each x (List·Memᴰ·tail z)))
 
-with-permuted :
+pub with-permuted :
     (tally : ℕ → ℕ) {rows rows′ : Rows} → List·Permᴰ rows rows′ →
     List·Permᴰ (withTallies tally rows) (withTallies tally rows′)
 unfolding withTallies

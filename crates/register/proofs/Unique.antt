@@ -33,7 +33,7 @@ none-after source r rows u e =
     rows
     (omega (arith, u source, ap length (filter-yes (hasNumber source) r rows e)))
 
-own-number : (r : Record) → hasNumber (r .source) r ≡ true
+pub own-number : (r : Record) → hasNumber (r .source) r ≡ true
 own-number r = eq-eqb (r .source) (r .source) refl
 
 pub unique-tail : (r : Record) (rows : Rows) → Unique (r ∷ rows) → any (hasNumber (r .source)) rows ≡ false

@@ -3,3 +3,4 @@ pub mod Tallies
 pub mod Choosing
 pub mod Promise
 pub mod Letter
+pub mod ArrivalOrder

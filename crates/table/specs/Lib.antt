@@ -7,3 +7,4 @@ pub mod History
 pub mod Numbers
 pub mod PlaceTaken
 pub mod Refused
+pub mod ArrivalOrder

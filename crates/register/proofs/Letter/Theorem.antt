@@ -96,7 +96,7 @@ after-refused : (o : Opening) (rows : Rows) (call : Call) → (answer o rows cal
 unfolding after
 after-refused o rows call h = rw (ne-eqb (answer o rows call) 0 h) refl
 
-after-accepted :
+pub after-accepted :
     (o : Opening) (rows : Rows) (call : Call) → answer o rows call ≡ 0 → after o rows call ≡ accepted o rows call
 unfolding after
 after-accepted o rows call e = rw (eq-eqb (answer o rows call) 0 e) refl

@@ -1,6 +1,6 @@
 -- Demand 3, one theorem: by induction over the calls, table and register answer alike and stay in agreement; choosing
 -- on the table is then the register's choice, whatever the order of rows, by the theorem of `choosing`.
-use Prim.Native.Nat.{ℕ, _<_}
+use Prim.Native.Nat.{ℕ, suc, _<_}
 use mathlib.Core.Bool.{Bool, true, false, and-eq-true-iff}
 use mathlib.Core.List.{List, [], _∷_, _++_, List·Memᴰ, List·Memᴰ·not-nil, List·Permᴰ, Permᴰ·refl, Permᴰ·symm}
 use mathlib.Core.Logic.{_↔_}
@@ -78,20 +78,20 @@ opening-answered o = go (isRefusedOpening o) refl
 -- ---- any list of calls
 
 -- from a table and members in agreement: every answer is the register's, and they agree afterwards
-record AlikeAfter (o : Opening) (t : Table) (ms : Members) (calls : List Call) : Type 0 where
-  answers-same : answersFrom t calls ≡ answers o (recordsOf ms) calls
-  holds : Holds o (tableFrom t calls) (recordsOf (membersAfterAll o ms calls))
-  tallies : TalliesAgree (tableFrom t calls) (membersAfterAll o ms calls)
+pub record AgreementAfter (o : Opening) (t : Table) (ms : Members) (calls : List Call) : Type 0 where
+  pub answers-same : answersFrom t calls ≡ answers o (recordsOf ms) calls
+  pub holds : Holds o (tableFrom t calls) (recordsOf (membersAfterAll o ms calls))
+  pub tallies : TalliesAgree (tableFrom t calls) (membersAfterAll o ms calls)
 
-alike-after :
+pub agreement-after :
     (o : Opening) (t : Table) (ms : Members) (calls : List Call) → Holds o t (recordsOf ms) → TalliesAgree t ms →
-    AlikeAfter o t ms calls
+    AgreementAfter o t ms calls
 unfolding answersFrom tableFrom answers membersAfterAll answered
-alike-after o t ms [] h tallies = record { answers-same = refl; holds = h; tallies = tallies }
-alike-after o t ms (call ∷ calls) h tallies =
+agreement-after o t ms [] h tallies = record { answers-same = refl; holds = h; tallies = tallies }
+agreement-after o t ms (call ∷ calls) h tallies =
     let rows : recordsOf (membersAfter o ms call) ≡ after o (recordsOf ms) call = rows-after o ms call in
     let next : _ =
-    alike-after o (answered t call .table) (membersAfter o ms call) calls
+    agreement-after o (answered t call .table) (membersAfter o ms call) calls
     (rw rows (answered-holds o t (recordsOf ms) h call))
     (answered-tallies o t ms h tallies call) in
     record {
@@ -104,10 +104,10 @@ alike-after o t ms (call ∷ calls) h tallies =
     }
 
 -- from the table that opening returned
-from-opened : (o : Opening) → (BadOpening o → ⊥) → (calls : List Call) → AlikeAfter o (opened o .table) [] calls
+from-opened : (o : Opening) → (BadOpening o → ⊥) → (calls : List Call) → AgreementAfter o (opened o .table) [] calls
 unfolding recordsOf
 from-opened o taken calls =
-    let opens : _ = opened-holds o taken in alike-after o (opened o .table) [] calls (opens .1) (opens .2)
+    let opens : _ = opened-holds o taken in agreement-after o (opened o .table) [] calls (opens .1) (opens .2)
 
 -- ---- choosing
 
@@ -117,7 +117,7 @@ choice-at-rate : (o : Opening) (t : Table) (at : Reading) → openingOf t ≡ o 
 unfolding choiceOf
 choice-at-rate o t at e = ap (λ (p : Opening). choiceAmong (p .rate) at (t .held) (recordsIn t)) e
 
-chosen-same :
+pub chosen-same :
     (o : Opening) (t : Table) (rows : Rows) → Holds o t rows → (at : Reading) → choiceOf t at ≡ choice o at rows
 chosen-same o t rows h at =
     choice-at-rate o t at (h .opening)
@@ -134,7 +134,7 @@ promised-same o t rows h sound at =
 -- ---- the members, as the public calls show them
 
 -- the table's members are the register's
-members-same :
+pub members-same :
     (o : Opening) (t : Table) (ms : Members) → Holds o t (recordsOf ms) → TalliesAgree t ms → Kept ms →
     List·Permᴰ (membersOf t) ms
 members-same o t ms h tallies kept =
@@ -156,12 +156,18 @@ module _ (t : Table) (ms : Members) (long : length (t .members) ≡ 64) (same : 
           rw e (refl, member-permuted same (member-at-place (t .held) place (t .members) nobody (both .1) within))
       go false e used = let free : placeAt t place .held ≡ 0 = rw e refl in absurd (used free)
 
-  row-place : (m : Member) → List·Memᴰ m ms → Shows t m
+  pub row-place : (m : Member) → List·Memᴰ m ms → Shows t m
   unfolding placeAt
   row-place m member =
       let at : _ = place-of-member m (t .held) (t .members) nobody (member-permuted (Permᴰ·symm same) member) in
       let below : at .place < 64 = omega (arith, at .within, long) in
       (at .place, below, rw (lt-ltb (at .place) 64 below, at .held, at .row-is) refl)
+
+  -- whoever is shown is one of the members
+  pub shown-row : (m : Member) → Shows t m → List·Memᴰ m ms
+  shown-row m at =
+      let held : _ = ap (λ (s : Place). s .held) (at .2) in
+      rw (ap (λ (s : Place). s .member) (at .2)) at (place-row (at .0) (λ free. omega (arith, held, free)) .1)
 
 -- what a place shows that is held
 pub shown-there :
@@ -220,27 +226,12 @@ agreed o t ms h tallies kept sound =
 
 -- the table shows the register's members
 shown-member : (o : Opening) → (BadOpening o → ⊥) → (h : History) (m : Member) → IsMember o h m ↔ IsShown o h m
-shown-member o taken h m = (row-place t ms long same m, shown)
-  where
-    t : Table
-    t = tableFrom (opened o .table) (madeIn h)
-
-    ms : Members
-    ms = membersAfterAll o [] (madeIn h)
-
-    long : length (tableFrom (opened o .table) (madeIn h) .members) ≡ 64
-    long = from-opened o taken (madeIn h) .holds .long
-
-    same : List·Permᴰ (membersOf (tableFrom (opened o .table) (madeIn h))) (membersAfterAll o [] (madeIn h))
-    same =
-        let alike : _ = from-opened o taken (madeIn h) in
-        members-same o t ms (alike .holds) (alike .tallies) (kept-after-all o [] (madeIn h) kept-none)
-
-    shown : IsShown o h m → IsMember o h m
-    shown at =
-        let held : _ = ap (λ (s : Place). s .held) (at .2) in
-        rw (ap (λ (s : Place). s .member) (at .2)) at
-        (place-row t ms long same (at .0) (λ free. omega (arith, held, free)) .1)
+shown-member o taken h m =
+    let alike : _ = from-opened o taken (madeIn h) in
+    let long : _ = alike .holds .long in
+    let same : _ =
+    members-same o _ _ (alike .holds) (alike .tallies) (kept-after-all o [] (madeIn h) kept-none) in
+    (row-place _ _ long same m, shown-row _ _ long same m)
 
 -- ---- demand 3
 
@@ -249,7 +240,7 @@ pub reached-holds :
 reached-holds o calls t ms here =
     rw (here .table-is, here .members-are) (from-opened o (here .taken) calls .holds)
 
-reached-tallies :
+pub reached-tallies :
     (o : Opening) (calls : List Call) (t : Table) (ms : Members) → Reached o calls t ms → TalliesAgree t ms × Kept ms
 reached-tallies o calls t ms here =
     rw (here .table-is, here .members-are)
@@ -294,6 +285,11 @@ unfolding tableFrom
 table-append t [] more = refl
 table-append t (call ∷ calls) more = table-append (answered t call .table) calls more
 
+pub length-answersFrom : (t : Table) (calls : List Call) → length (answersFrom t calls) ≡ length calls
+unfolding answersFrom
+length-answersFrom t [] = refl
+length-answersFrom t (call ∷ calls) = ap suc (length-answersFrom (answered t call .table) calls)
+
 -- what is reached is reached further by more calls, one by one or in a datagram
 pub reached-further :
     (o : Opening) (calls : List Call) (t : Table) (ms : Members) (more : List Call) → Reached o calls t ms →
@@ -314,4 +310,4 @@ pub reached-answers :
     (o : Opening) (calls : List Call) (t : Table) (ms : Members) (more : List Call) → Reached o calls t ms →
     answersFrom t more ≡ answers o (recordsOf ms) more
 reached-answers o calls t ms more here =
-    alike-after o t ms more (reached-holds o calls t ms here) (reached-tallies o calls t ms here .0) .answers-same
+    agreement-after o t ms more (reached-holds o calls t ms here) (reached-tallies o calls t ms here .0) .answers-same

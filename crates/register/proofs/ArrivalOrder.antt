@@ -1,0 +1,3 @@
+pub mod Reports
+pub mod Further
+pub mod Lists
