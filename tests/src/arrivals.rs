@@ -4,7 +4,7 @@
 
 use crate::decoder::decode;
 use crate::generator::{self, Compound, Rng, Start};
-use crate::histories::{history_with_world, Step, World};
+use crate::histories::{history_with_world, History, Step, World};
 use crate::items::{Item, Report, Settings};
 use crate::members::{Burst, Call, Opening, Origin, Reading};
 
@@ -30,6 +30,7 @@ pub enum Event {
     Call(Call),
     Burst(Burst),
     Arrival(Arrival),
+    Choose(Reading),
     /// As that of a history.
     SetTally(u32, u32),
 }
@@ -41,12 +42,23 @@ pub struct Course {
 }
 
 impl Event {
-    /// That of a step which can change the members.
+    /// That of a step. Members are looked at without one.
     pub(crate) fn of(step: Step) -> Option<Event> {
         match step {
             Step::Call(call) => Some(Event::Call(call)),
             Step::Burst(burst) => Some(Event::Burst(burst)),
-            Step::Choose(_) | Step::Members | Step::SetTally(..) => None,
+            Step::Choose(reading) => Some(Event::Choose(reading)),
+            Step::SetTally(source, tally) => Some(Event::SetTally(source, tally)),
+            Step::Members => None,
+        }
+    }
+}
+
+impl From<History> for Course {
+    fn from(history: History) -> Self {
+        Course {
+            opening: history.opening,
+            events: history.steps.into_iter().filter_map(Event::of).collect(),
         }
     }
 }
@@ -54,19 +66,16 @@ impl Event {
 /// The next course of a run.
 pub fn course(rng: &mut Rng) -> Course {
     let (history, mut world) = history_with_world(rng);
-    let mut events: Vec<Event> = history.steps.into_iter().filter_map(Event::of).collect();
+    let mut course = Course::from(history);
     for _ in 0..rng.between(1, MOST_EVENTS) {
-        events.push(match rng.below(100) {
+        course.events.push(match rng.below(100) {
             0..=4 => Event::Call(world.call(rng)),
             // So that members come back by datagrams after a sweep, too.
             5..=7 => Event::Call(Call::Sweep(world.some_reading(rng))),
             _ => Event::Arrival(arrival(rng, &mut world)),
         });
     }
-    Course {
-        opening: history.opening,
-        events,
-    }
+    course
 }
 
 fn arrival(rng: &mut Rng, world: &mut World) -> Arrival {

@@ -165,6 +165,7 @@ impl IntakeComparison {
                 Event::Call(call) => check_call(&mut sides, call),
                 Event::Burst(burst) => self.take_burst(&mut sides, burst),
                 Event::Arrival(arrival) => self.check_arrival(&mut sides, arrival),
+                Event::Choose(reading) => self.check_choice(&sides, reading),
                 Event::SetTally(source, tally) => {
                     sides.table = with_tally(&sides.table, *source, *tally);
                     sides.intake.set_tally(*source, *tally);

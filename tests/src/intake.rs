@@ -9,8 +9,9 @@ use crate::arrivals::Arrival;
 use crate::burst::Taker;
 use crate::decoder::decode;
 use crate::items::{Item, PlacedItem, Refusal};
-use crate::members::{Call, Choice, Member, Opening, Reading, Record, ReportFields};
-use crate::places::{self, count_held_with, lowest_free_with, Held, Joins, PLACES};
+use crate::members::{Call, Choice, Opening, Reading, Record, ReportFields};
+use crate::order_faults::{self, Heard};
+use crate::places::{self, count_held_with, lowest_free_with, Held, Joins, Places, PLACES};
 use crate::register::{self, Register};
 use crate::rejoins::{self, Leaving, Leavings, LeftBy, Rejoins};
 use crate::twins::AroundLimit;
@@ -55,12 +56,15 @@ pub enum Fault {
     Places(places::Fault),
     /// A new member's tally errs.
     Rejoins(rejoins::Fault),
+    /// The order of arrival matters.
+    Orders(order_faults::Fault),
     /// The register errs.
     Register(register::Fault),
 }
 
 impl Fault {
-    /// All but those of the places, of new members' tallies and of the register.
+    /// All but those of the places, of new members' tallies, of the order of arrival
+    /// and of the register.
     pub const ALL: [Fault; 17] = [
         Fault::SettingsCounted,
         Fault::SettingsFiled,
@@ -117,6 +121,8 @@ pub struct Intake {
     /// The places that have had a member.
     used: Held,
     leavings: Leavings,
+    /// For the faults that go by it.
+    pub(crate) heard: Option<Heard>,
     /// What was met since the last datagram came.
     pub met: Met,
     fault: Option<Fault>,
@@ -153,6 +159,7 @@ impl Intake {
             places: [None; PLACES],
             used: [false; PLACES],
             leavings: Leavings::default(),
+            heard: None,
             met: Met::default(),
             fault,
             first_flag: None,
@@ -171,13 +178,26 @@ impl Intake {
     }
 
     pub fn choose(&self, reading: &Reading) -> Choice {
-        self.register.choose(reading)
+        match self.fault {
+            Some(Fault::Orders(fault)) => fault.choose(self, reading),
+            _ => self.register.choose(reading),
+        }
+    }
+
+    /// The number with the lowest key is chosen among equals.
+    pub(crate) fn choose_by(&self, reading: &Reading, key: impl Fn(u32) -> u32) -> Choice {
+        self.register.choose_by(reading, key)
     }
 
     /// The member at each place.
-    pub fn members(&self) -> [Option<Member>; PLACES] {
+    pub fn members(&self) -> Places {
         let member = |source: u32| self.register.member_of(source);
         self.places.map(|source| source.and_then(member))
+    }
+
+    /// The place of the member with this number.
+    pub(crate) fn place_of(&self, source: u32) -> Option<usize> {
+        self.places.iter().position(|held| *held == Some(source))
     }
 
     /// As if the number of a member had been refused with 14 so often.
@@ -195,6 +215,16 @@ impl Intake {
 
     /// A single call: the refusal's number, or 0 where there is none.
     pub fn call(&mut self, call: &Call) -> u64 {
+        match (self.fault, call) {
+            (Some(Fault::Orders(fault)), Call::Report(told, reading)) => {
+                fault.report(self, told, reading)
+            }
+            _ => self.make_call(call),
+        }
+    }
+
+    /// The same, whatever was heard last.
+    pub(crate) fn make_call(&mut self, call: &Call) -> u64 {
         let tally = call
             .source()
             .map_or(0, |source| self.register.tally(source));
@@ -217,7 +247,7 @@ impl Intake {
 
     /// A new member takes the lowest free place, or gets 18 where there is none.
     fn take_place(&mut self, source: u32) -> u64 {
-        if self.places.contains(&Some(source)) {
+        if self.place_of(source).is_some() {
             return 0;
         }
         let held = self.held();

@@ -3,6 +3,7 @@
 //! and the comparison of all of these with libprunepocket.a.
 
 pub mod archive;
+pub mod arrival_orders;
 pub mod arrivals;
 pub mod burst;
 pub mod burst_counts;
@@ -13,6 +14,7 @@ pub mod cases;
 pub mod compare;
 pub mod compare_burst;
 pub mod compare_intake;
+pub mod compare_orders;
 pub mod compare_replay;
 pub mod compare_site_lines;
 pub mod compare_table;
@@ -27,6 +29,9 @@ pub mod intake;
 pub mod items;
 pub mod limit_histories;
 pub mod members;
+pub mod order_counts;
+pub mod order_courses;
+pub mod order_faults;
 pub mod places;
 pub mod plain_recordings;
 pub mod plain_reports;

@@ -1,12 +1,11 @@
 //! Histories and courses around the limit of the tally, which calls alone do not
 //! reach: one member's tally is written into a table that public calls made.
 
-use crate::arrivals::{Arrival, Course, Event};
+use crate::arrivals::{Course, Event};
 use crate::call_history::TALLY_LIMIT;
-use crate::encoder::Message;
 use crate::histories::{History, Step};
-use crate::members::{Burst, Call, Record};
-use crate::plain_reports::{origin, reading, record, OPENING};
+use crate::members::{Burst, Call};
+use crate::plain_reports::{arrival, origin, reading, record, OPENING};
 
 /// The tallies that are written: also before a carry into another byte or the sign.
 pub const TALLIES: [u32; 8] = [
@@ -223,31 +222,4 @@ pub fn course(tally: u32) -> Course {
         opening: OPENING,
         events,
     }
-}
-
-/// An RR, then this report for each R and a farewell for each F.
-fn arrival(told: &Record, items: &str, clock: u32) -> Arrival {
-    let words = |words: [u32; 2]| words.map(u32::to_be_bytes).concat();
-    let mut datagram = words([0x80C9_0001, told.source]);
-    for item in items.bytes() {
-        datagram.extend(match item {
-            b'R' => written_report(told),
-            _ => words([0x81CB_0001, told.source]),
-        });
-    }
-    Arrival {
-        datagram,
-        reduced_size: false,
-        origin: told.origin,
-        reading: reading(clock),
-        length: items.len(),
-        choice: reading(clock),
-    }
-}
-
-/// The report as the independent encoder writes it.
-fn written_report(record: &Record) -> Vec<u8> {
-    let message = Message::from(record);
-    let written = message.encode_with(message.size(), None);
-    written.expect("its fields are in range")
 }

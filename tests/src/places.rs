@@ -5,12 +5,16 @@
 //! find.
 
 use crate::counts::{lines, Line};
+use crate::members::Member;
 
 /// Places in a table.
 pub const PLACES: usize = 64;
 
 /// Which of the places are held.
 pub type Held = [bool; PLACES];
+
+/// The member at each place, if there is one.
+pub type Places = [Option<Member>; PLACES];
 
 #[derive(Clone, Copy, Debug, PartialEq, Eq)]
 pub enum Fault {

@@ -474,6 +474,11 @@ impl Register {
 
     /// The member to follow at a reading, or 20.
     pub fn choose(&self, reading: &Reading) -> Choice {
+        self.choose_by(reading, |source| source)
+    }
+
+    /// The same, where the number with the lowest key is chosen among equals.
+    pub fn choose_by(&self, reading: &Reading, key: impl Fn(u32) -> u32) -> Choice {
         let fresh: Vec<&Record> = self
             .rows
             .iter()
@@ -486,23 +491,23 @@ impl Register {
         let counted: Vec<&Record> = counted.collect();
         let chosen = counted.iter().max_by_key(|row| {
             let lateness = self.lateness(&row.report, reading, by_presentation);
-            self.rank(lateness, row.source)
+            self.rank(lateness, row.source, key(row.source))
         });
         let chosen = chosen.ok_or(20u64)?;
         let count = counted.len() as u32 + u32::from(self.planted(Fault::CountOneMore));
         Ok(self.target(chosen, by_presentation, count))
     }
 
-    /// The greatest is chosen: greater lateness, then lower source number. The
-    /// number between them is always 0, but for the faults.
-    fn rank(&self, lateness: i128, source: u32) -> (i128, i64, Reverse<u32>) {
+    /// The greatest is chosen: greater lateness, then lower key. The number between
+    /// them is always 0, but for the faults.
+    fn rank(&self, lateness: i128, source: u32, key: u32) -> (i128, i64, Reverse<u32>) {
         let tally = || i64::from(self.tally(source));
         match self.fault {
-            Some(Fault::EarliestChosen) => (-lateness, 0, Reverse(source)),
-            Some(Fault::HighestOnTie) => (lateness, 0, Reverse(!source)),
-            Some(Fault::GreatestTallyOnTie) => (lateness, tally(), Reverse(source)),
-            Some(Fault::LeastTallyOnTie) => (lateness, -tally(), Reverse(source)),
-            _ => (lateness, 0, Reverse(source)),
+            Some(Fault::EarliestChosen) => (-lateness, 0, Reverse(key)),
+            Some(Fault::HighestOnTie) => (lateness, 0, Reverse(!key)),
+            Some(Fault::GreatestTallyOnTie) => (lateness, tally(), Reverse(key)),
+            Some(Fault::LeastTallyOnTie) => (lateness, -tally(), Reverse(key)),
+            _ => (lateness, 0, Reverse(key)),
         }
     }
 

@@ -505,7 +505,7 @@ fn is<T: PartialEq + std::fmt::Debug>(answer: T, due: T) -> Verdict {
 }
 
 fn records(side: &impl Side) -> Vec<Record> {
-    let members = (0..PLACES).filter_map(|place| side.member_at(place));
+    let members = side.places().into_iter().flatten();
     members.map(|member| member.record).collect()
 }
 

@@ -7,10 +7,13 @@ use crate::decoder::decode;
 use crate::encoder::Message;
 use crate::intake::{Answer, Intake};
 use crate::members::{Call, Choice, Member, Opening, Origin, Reading, Record};
+use crate::places::Places;
 use crate::replay::replay;
 use crate::sync_group::{self, LONGEST_LINE};
+use crate::table_values::with_tally;
 use prunepocket_sys::{count_items, item_field, RecordingAnswered, Refusal, Table};
 use prunepocket_sys::{read_sync_group, write_sync_group};
+use std::array::from_fn;
 
 /// More calls than a datagram can have.
 const MOST_CALLS: usize = 512;
@@ -32,6 +35,12 @@ pub trait Side: Clone {
     fn choose(&self, reading: &Reading) -> Choice;
     fn count_members(&self) -> u64;
     fn member_at(&self, place: usize) -> Option<Member>;
+    /// The member at each place.
+    fn places(&self) -> Places {
+        from_fn(|place| self.member_at(place))
+    }
+    /// Writes the tally of the member with this number.
+    fn set_tally(&mut self, source: u32, tally: u32);
     fn count_items(datagram: &[u8], reduced_size: bool) -> Result<u64, Refusal>;
     /// The kind and the source of the item at an index.
     fn item_at(datagram: &[u8], reduced_size: bool, index: u64) -> Result<(u64, u64), Refusal>;
@@ -102,6 +111,10 @@ impl Side for Table {
     fn member_at(&self, place: usize) -> Option<Member> {
         let shown = Table::member_at(self, place);
         (shown.held == 1).then_some(shown.member)
+    }
+
+    fn set_tally(&mut self, source: u32, tally: u32) {
+        *self = with_tally(self, source, tally);
     }
 
     fn count_items(datagram: &[u8], reduced_size: bool) -> Result<u64, Refusal> {
@@ -182,6 +195,14 @@ impl Side for Intake {
 
     fn member_at(&self, place: usize) -> Option<Member> {
         self.members().get(place).copied().flatten()
+    }
+
+    fn places(&self) -> Places {
+        self.members()
+    }
+
+    fn set_tally(&mut self, source: u32, tally: u32) {
+        Intake::set_tally(self, source, tally);
     }
 
     fn count_items(datagram: &[u8], reduced_size: bool) -> Result<u64, Refusal> {

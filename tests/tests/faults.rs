@@ -1,12 +1,14 @@
 //! Plants each fault in the decoder, in the encoder, in the reader and writer of
 //! site files' lines, in the register, in bursts, in the tallies, in those of new
-//! members, in the rule of places, in the intake and in the replay of recordings, and
-//! asserts that the comparison finds it.
+//! members, in the rule of places, in the order of arrival, in the intake and in the
+//! replay of recordings, and asserts that the comparison finds it.
 
+use prunepocket_tests::arrival_orders::two_orders;
 use prunepocket_tests::arrivals::Course;
 use prunepocket_tests::call_history::TALLY_LIMIT;
 use prunepocket_tests::compare::{Comparison, Verdict};
 use prunepocket_tests::compare_intake::{self, IntakeComparison};
+use prunepocket_tests::compare_orders::{self, OrderComparison};
 use prunepocket_tests::compare_replay::{self, ReplayComparison};
 use prunepocket_tests::compare_site_lines::LineComparison;
 use prunepocket_tests::compare_table::{self, TableComparison};
@@ -14,8 +16,10 @@ use prunepocket_tests::compare_writers::WriterComparison;
 use prunepocket_tests::encoder::Message;
 use prunepocket_tests::generator::{self, Rng};
 use prunepocket_tests::histories::History;
+use prunepocket_tests::intake::Intake;
+use prunepocket_tests::members::Opening;
 use prunepocket_tests::{arrivals, histories, limit_histories, recordings, site_lines};
-use prunepocket_tests::{burst, call_history, decoder, encoder, intake};
+use prunepocket_tests::{burst, call_history, decoder, encoder, intake, order_faults};
 use prunepocket_tests::{places, recording, register, rejoins, replay, sync_group};
 use std::borrow::Borrow;
 use std::fmt::Debug;
@@ -60,6 +64,9 @@ fn main() {
     missed |= !places_find_all(seed);
     for fault in intake::Fault::ALL {
         missed |= !print_found(fault, "course", in_courses(seed, fault));
+    }
+    for fault in order_faults::all() {
+        missed |= !print_found(fault, "orders", in_two_orders(seed, fault));
     }
     missed |= !recordings_find_all(seed);
     if missed {
@@ -293,6 +300,21 @@ fn in_these_courses(
     )?;
     let course = compare_intake::smallest(seed, Some(fault), &course);
     let difference = IntakeComparison::new(seed, Some(fault)).check(&course);
+    difference.err().map(|difference| (run, difference))
+}
+
+/// Two tables with the fault differ from each other, and two without it do not. The
+/// difference is that of the smallest course with the fault in it.
+fn in_two_orders(seed: u64, fault: intake::Fault) -> Found {
+    let with = |fault: Option<intake::Fault>| move |opening: &Opening| Intake::open(opening, fault);
+    let mut comparison = OrderComparison::new(with(Some(fault)));
+    let (run, orders, _) = hunt(
+        generated(seed, two_orders),
+        |orders| comparison.check(orders),
+        |orders| OrderComparison::new(with(None)).check(orders),
+    )?;
+    let orders = compare_orders::smallest(with(Some(fault)), &orders);
+    let difference = OrderComparison::new(with(Some(fault))).check(&orders);
     difference.err().map(|difference| (run, difference))
 }
 

@@ -66,7 +66,7 @@ fn report_mismatch(seed: u64, run: u64, course: &Course, difference: &str) {
                 println!("reduced size {}", arrival.reduced_size);
                 println!("datagram {}", hex(&arrival.datagram));
             }
-            Event::Burst(_) | Event::SetTally(..) => println!("{event:?}"),
+            Event::Burst(_) | Event::Choose(_) | Event::SetTally(..) => println!("{event:?}"),
         }
     }
 }
