@@ -1,5 +1,5 @@
 /*
- * What test_table.c and test_tallies.c share of whole datagrams.
+ * What test_table.c, test_tallies.c and test_order.c share of whole datagrams.
  */
 #ifndef DATAGRAMS_H
 #define DATAGRAMS_H
@@ -52,8 +52,9 @@ static table_t take(table_t table, const uint8_t *datagram, size_t length, uint3
 }
 
 /* Refused, with the table and the list as before. */
-static void take_refused(table_t table, const uint8_t *datagram, size_t length,
-                         uint32_t reduced_size, size_t room, uint64_t number, uint64_t place)
+static inline void take_refused(table_t table, const uint8_t *datagram, size_t length,
+                                uint32_t reduced_size, size_t room, uint64_t number,
+                                uint64_t place)
 {
     struct prunepocket_answer answer = {number, place};
     table_t after = take(table, datagram, length, reduced_size, room, answer, NULL, 0);

@@ -1,6 +1,7 @@
 /*
- * What test_table.c, test_tallies.c and test_burst.c share: the reports of the cases, each call with
- * what is checked of its answer, and tables to start from.
+ * What test_table.c, test_tallies.c, test_burst.c and test_order.c share: the reports of the cases,
+ * each call with what is checked of its answer, and tables to start from. What not all of them use
+ * is inline.
  */
 #ifndef TABLES_H
 #define TABLES_H
@@ -43,7 +44,7 @@ static record_t wired_at(uint8_t source, uint64_t received)
 }
 
 /* Received at 999 s, presented 03E70000. */
-static record_t wired(uint8_t source)
+static inline record_t wired(uint8_t source)
 {
     return wired_at(source, SECONDS(999));
 }
@@ -154,7 +155,7 @@ static table_t farewell(table_t table, uint32_t source, origin_t origin, uint64_
 }
 
 /* The table after a sweep, which leaves so many members. */
-static table_t sweep(table_t table, reading_t reading, uint32_t members)
+static inline table_t sweep(table_t table, reading_t reading, uint32_t members)
 {
     answered_t answered = prunepocket_sweep(table, reading);
 
@@ -219,7 +220,7 @@ static void check_place(const table_t *table, size_t place, const table_t *expec
     check_at(table, place, is_held(expected->held, place) ? &expected->members[place] : NULL);
 }
 
-static void check_places(const table_t *table, const table_t *expected)
+static inline void check_places(const table_t *table, const table_t *expected)
 {
     check_equal("members", prunepocket_count_members(*table), count_held(expected->held));
     for (size_t place = 0; place < PRUNEPOCKET_PLACES; place++)
@@ -234,7 +235,7 @@ static table_t with_one(record_t record)
     return report(opened(), record, now, PRUNEPOCKET_ACCEPTED);
 }
 
-static table_t with_two(record_t first, record_t second)
+static inline table_t with_two(record_t first, record_t second)
 {
     return report(with_one(first), second, now, PRUNEPOCKET_ACCEPTED);
 }
@@ -262,7 +263,7 @@ static table_t left_by_farewells(table_t table, uint64_t word)
 }
 
 /* Sources 100 to 163 stand at the places, and the word says which of them are held. */
-static table_t table_of(uint64_t word)
+static inline table_t table_of(uint64_t word)
 {
     table_t table = opened();
 
@@ -273,7 +274,7 @@ static table_t table_of(uint64_t word)
 }
 
 /* C writes a tally at every place, held or not: from place to place there is a step between them. */
-static table_t with_tallies(table_t table, uint32_t first, uint32_t step)
+static inline table_t with_tallies(table_t table, uint32_t first, uint32_t step)
 {
     for (uint32_t i = 0; i < PRUNEPOCKET_PLACES; i++)
         table.members[i].tally = first + i * step;
