@@ -101,6 +101,9 @@
  * 97: after a refusal there is a target
  * 98: the last four bytes of an entry's N are not looked at
  * 99: the choice is made before the last datagram is taken
+ * 100: among equally late members the one at the lowest place is chosen
+ * 101: an accepted report of a new member raises the tally of the member at the held place before its own
+ * 102: the member whose report was accepted last is followed, where it is counted
  */
 #include "../tests/c/lateness.h"
 #include "prunepocket.h"
@@ -237,6 +240,23 @@ static size_t next_held(const struct prunepocket_table *table, size_t place)
     return place;
 }
 
+/* The held place before another, from the first on to the last. */
+static size_t held_before(const struct prunepocket_table *table, size_t place)
+{
+    do
+        place = (place + PRUNEPOCKET_PLACES - 1) % PRUNEPOCKET_PLACES;
+    while (!is_held(table, place));
+    return place;
+}
+
+/* Each table has it in its own memory, at the places that are not held. */
+static void note_last_heard(struct prunepocket_table *table, uint32_t source)
+{
+    for (size_t place = 0; place < PRUNEPOCKET_PLACES; place++)
+        if (!is_held(table, place))
+            table->members[place].record.source = source;
+}
+
 /* After 14 under a number: the tally before and the one that came. */
 static void plant_after_14(const struct prunepocket_table *before, struct prunepocket_table *after, uint32_t source)
 {
@@ -269,6 +289,10 @@ static void plant_after_accepted(const struct prunepocket_table *before, struct 
         after->members[place].tally = before->members[place].tally;
     if (ARCHIVE_FAULT == 42 && is_new && left < PRUNEPOCKET_PLACES)
         after->members[place].tally = before->members[left].tally;
+    if (ARCHIVE_FAULT == 101 && is_new)
+        after->members[held_before(after, place)].tally += prunepocket_count_members(*after) > 1;
+    if (ARCHIVE_FAULT == 102)
+        note_last_heard(after, source);
 }
 
 /* Members that left, by farewell or by a sweep: memory keeps their tallies, or has 0. */
@@ -473,28 +497,58 @@ __wrap_prunepocket_report_burst(struct prunepocket_table table, const struct pru
     return answered;
 }
 
-/* The target, or that of an equally late member of the highest tally: each is chosen where it alone is held. */
-static struct prunepocket_target choose_by_tally(struct prunepocket_table table, struct prunepocket_reading reading,
-                                                 struct prunepocket_target target)
+/* The target where the member at a place alone is held: whether it is counted, as those are that the target is of. */
+static int choose_alone(struct prunepocket_table table, struct prunepocket_reading reading, size_t place,
+                        struct prunepocket_target *target)
 {
-    uint64_t held = table.held;
-    uint32_t highest = table.members[place_of(&table, target.source, 1)].tally;
+    uint32_t counted = target->counted;
+    int is_arrival = target->presented == 0;
+    struct prunepocket_followed alone;
+
+    table.held &= UINT64_C(1) << place;
+    alone = __real_prunepocket_choose(table, reading);
+    if (alone.number != PRUNEPOCKET_ACCEPTED || (alone.target.presented == 0) != is_arrival)
+        return 0;
+    *target = alone.target;
+    target->counted = counted;
+    return 1;
+}
+
+/* The target, or that of an equally late member: the one of the highest tally, or the one at the lowest place. */
+static struct prunepocket_target choose_among_equals(struct prunepocket_table table, struct prunepocket_reading reading,
+                                                     struct prunepocket_target target)
+{
+    size_t at = place_of(&table, target.source, 1);
     struct prunepocket_target chosen = target;
 
     for (size_t place = 0; place < PRUNEPOCKET_PLACES; place++) {
-        struct prunepocket_followed alone;
+        struct prunepocket_target alone = target;
 
-        table.held = held & UINT64_C(1) << place;
-        alone = __real_prunepocket_choose(table, reading);
-        if (alone.number == PRUNEPOCKET_ACCEPTED && (alone.target.presented == 0) == (target.presented == 0) &&
-            lateness(alone.target, table.rate, reading) == lateness(target, table.rate, reading) &&
-            table.members[place].tally > highest) {
-            highest = table.members[place].tally;
-            chosen = alone.target;
+        if (choose_alone(table, reading, place, &alone) &&
+            lateness(alone, table.rate, reading) == lateness(target, table.rate, reading) &&
+            (ARCHIVE_FAULT == 100 ? place < at : table.members[place].tally > table.members[at].tally)) {
+            at = place;
+            chosen = alone;
         }
     }
-    chosen.counted = target.counted;
     return chosen;
+}
+
+/* The target, or that of the member heard last. */
+static struct prunepocket_target choose_last_heard(struct prunepocket_table table, struct prunepocket_reading reading,
+                                                   struct prunepocket_target target)
+{
+    size_t free_place = 0;
+    size_t place;
+
+    while (free_place < PRUNEPOCKET_PLACES && is_held(&table, free_place))
+        free_place++;
+    if (free_place < PRUNEPOCKET_PLACES) {
+        place = place_of(&table, table.members[free_place].record.source, 1);
+        if (place < PRUNEPOCKET_PLACES)
+            choose_alone(table, reading, place, &target);
+    }
+    return target;
 }
 
 struct prunepocket_followed __wrap_prunepocket_choose(struct prunepocket_table table,
@@ -504,8 +558,10 @@ struct prunepocket_followed __wrap_prunepocket_choose(struct prunepocket_table t
 
     if (ARCHIVE_FAULT == 8)
         followed.table.held &= ~UINT64_C(1);
-    if (ARCHIVE_FAULT == 41 && followed.number == PRUNEPOCKET_ACCEPTED)
-        followed.target = choose_by_tally(table, reading, followed.target);
+    if ((ARCHIVE_FAULT == 41 || ARCHIVE_FAULT == 100) && followed.number == PRUNEPOCKET_ACCEPTED)
+        followed.target = choose_among_equals(table, reading, followed.target);
+    if (ARCHIVE_FAULT == 102 && followed.number == PRUNEPOCKET_ACCEPTED)
+        followed.target = choose_last_heard(table, reading, followed.target);
     return followed;
 }
 

@@ -1,16 +1,18 @@
 /*
  * Takes every input as a script of calls, gives them to the archive's member table and to the plain register, and
  * aborts where an answer, a member, its place, its tally or the target differs, or where a burst writes outside of the
- * numbers that its list is to get. What a whole datagram holds is the decoder's word. The form of a script is in
- * README.md.
+ * numbers that its list is to get. A second site takes reports in the other order (other_order.h). What a datagram has
+ * is the decoder's word. The form of a script is in README.md.
  */
 #include "decoder.h"
 #include "lend.h"
+#include "other_order.h"
 #include "prunepocket.h"
 #include "register.h"
 #include "same.h"
 #include "script.h"
 #include "shares.h"
+#include "sides.h"
 
 #include <inttypes.h>
 #include <stdbool.h>
@@ -130,7 +132,7 @@ __attribute__((section("__libfuzzer_extra_counters"))) static uint8_t counters[C
 
 /* What was met since the start. */
 static uint64_t met[CALLS][NUMBERS];
-static uint64_t looks, ties[2], targets[2], replaced, swept, most_rows, reduced;
+static uint64_t ties[2], targets[2], replaced, swept, most_rows, reduced;
 
 /* Reports, by calls and in datagrams; those with P 1 and a step of 0; the targets among these. */
 static uint64_t reports, at_step_0[LOW_BITS][NUMBERS], wired, wired_ties;
@@ -207,6 +209,7 @@ static void print_met(void)
     print_shares("new members", new_member_shares, new_members, NEW_MEMBERS, enough_of(reports));
     print_shares("tallies", tally_shares, tallies_met, TALLY_CASES, enough_of(reports));
     print_shares("bursts", burst_shares, bursts_met, BURST_CASES, enough_of(bursts));
+    print_shares("the other order", order_shares, orders_met, ORDER_CASES, enough_of(reports));
     fprintf(stderr, "reports replaced: %" PRIu64 "; members swept: %" PRIu64 "; at most %" PRIu64
                     " members; looks at all members: %" PRIu64 "\n",
             replaced, swept, most_rows, looks);
@@ -227,101 +230,6 @@ int LLVMFuzzerInitialize(int *argc, char ***argv)
 }
 
 /* ---- Both sides of the comparison ---- */
-
-/* How a member with a tally above 0 left a place where none has joined since. */
-enum leaving { NONE_LEFT, LEFT_BY_FAREWELL, LEFT_BY_SWEEP };
-
-struct sides {
-    struct prunepocket_table table;
-    struct plain_register rows;
-    enum leaving left[PLACES];
-    unsigned calls;
-};
-
-static struct prunepocket_origin to_origin(const struct from *from)
-{
-    struct prunepocket_origin origin;
-
-    memset(&origin, 0, sizeof origin);
-    memcpy(origin.address, from->bytes, 16);
-    origin.port = (uint16_t)(from->bytes[16] << 8 | from->bytes[17]);
-    return origin;
-}
-
-static struct prunepocket_record to_record(const struct row *row)
-{
-    struct prunepocket_record record;
-
-    memset(&record, 0, sizeof record);
-    record.source = row->source;
-    record.origin = to_origin(&row->origin);
-    record.report.received = row->report.received;
-    record.report.group = row->report.group;
-    record.report.media = row->report.media;
-    record.report.rtp = row->report.rtp;
-    record.report.presented = row->report.presented;
-    record.report.payload_type = row->report.payload_type;
-    record.report.p = row->report.p;
-    return record;
-}
-
-static void same_record(const struct prunepocket_record *archive, const struct prunepocket_record *expected)
-{
-    same("source of a member", archive->source, expected->source);
-    for (size_t i = 0; i < 16; i++)
-        same("address of a member", archive->origin.address[i], expected->origin.address[i]);
-    same("port of a member", archive->origin.port, expected->origin.port);
-    same("received of a member", archive->report.received, expected->report.received);
-    same("group of a member", archive->report.group, expected->report.group);
-    same("media source of a member", archive->report.media, expected->report.media);
-    same("rtp of a member", archive->report.rtp, expected->report.rtp);
-    same("presented of a member", archive->report.presented, expected->report.presented);
-    same("payload type of a member", archive->report.payload_type, expected->report.payload_type);
-    same("p of a member", archive->report.p, expected->report.p);
-}
-
-static void same_member(const struct prunepocket_member *archive, const struct prunepocket_member *expected)
-{
-    same_record(&archive->record, &expected->record);
-    same("tally of a member", archive->tally, expected->tally);
-}
-
-static void same_table(const struct prunepocket_table *archive, const struct prunepocket_table *before)
-{
-    same("group of the table as before", archive->group, before->group);
-    same("media source of the table as before", archive->media, before->media);
-    same("rate of the table as before", archive->rate, before->rate);
-    same("places of the table as before", archive->held, before->held);
-    /* Padding may differ, so only where the bytes do are the fields looked at. */
-    if (memcmp(archive->members, before->members, sizeof before->members) != 0)
-        for (size_t i = 0; i < PRUNEPOCKET_PLACES; i++)
-            same_member(&archive->members[i], &before->members[i]);
-}
-
-/* At a place stands the row there with its tally; where there is none, as behind the last place, all is zeros. */
-static void look_at(const struct sides *sides, size_t place)
-{
-    const struct row *row = register_row_at(&sides->rows, place);
-    struct prunepocket_member member = {.tally = register_tally_at(&sides->rows, place)};
-    struct prunepocket_place at = prunepocket_member_at(sides->table, place);
-
-    if (row)
-        member.record = to_record(row);
-    same("held", at.held, row != NULL);
-    same_member(&at.member, &member);
-}
-
-static void look(const struct sides *sides)
-{
-    static const size_t outside[] = {PRUNEPOCKET_PLACES, 65, 128, SIZE_MAX};
-
-    looks++;
-    same("members", prunepocket_count_members(sides->table), register_count(&sides->rows));
-    for (size_t place = 0; place < PRUNEPOCKET_PLACES; place++)
-        look_at(sides, place);
-    for (size_t i = 0; i < sizeof outside / sizeof outside[0]; i++)
-        look_at(sides, outside[i]);
-}
 
 /* Takes the table that a call handed back, after a look at its number. */
 static void take(struct sides *sides, enum call call, const struct prunepocket_answered *answered, unsigned number)
@@ -355,6 +263,9 @@ static bool open_both(struct sides *sides, uint32_t group, uint32_t media, uint3
     sides->table = answered.table;
     memset(sides->left, 0, sizeof sides->left);
     look(sides);
+    register_open(&other.site.rows, group, media, rate);
+    other.site.table = answered.table;
+    other.waits = false;
     return true;
 }
 
@@ -383,12 +294,6 @@ static void count_report(const struct told *report, unsigned number)
         at_step_0[low_bits][number]++;
         counters[BY_LOW_BITS + low_bits * NUMBERS + number] = 1;
     }
-}
-
-/* The place of a number that has a row. */
-static size_t place_of(const struct plain_register *rows, uint32_t source)
-{
-    return (size_t)(register_row(rows, source) - rows->rows);
 }
 
 /* A new row stands at a place, or at none. All places below it are held. */
@@ -497,23 +402,28 @@ static void expect_raised(struct sides *sides, uint32_t source, unsigned number)
 
 static void report_both(struct sides *sides, const struct row *row, struct clocks now)
 {
-    struct prunepocket_reading reading = {.ntp = now.n, .rtp = now.r};
-    struct prunepocket_answered answered = prunepocket_report(sides->table, to_record(row), reading);
+    struct prunepocket_answered answered = prunepocket_report(sides->table, to_record(row), to_reading(now));
     unsigned number = report_expected(sides, row, now);
 
     expect_raised(sides, row->source, number);
     take(sides, FILE_REPORT, &answered, number);
     if (number == 0)
         look_at(sides, place_of(&sides->rows, row->source));
+    report_other(sides, row, now, number);
 }
 
 static void farewell_both(struct sides *sides, uint32_t source, const struct from *origin)
 {
+    tell_waiting(sides);
+
+    bool apart = is_apart(sides, source);
     struct prunepocket_answered answered = prunepocket_farewell(sides->table, source, to_origin(origin));
     unsigned number = farewell_expected(sides, source, origin);
 
     expect_raised(sides, source, number);
     take(sides, SAY_FAREWELL, &answered, number);
+    farewell_other(source, origin, number);
+    count_order_if(number == 14 ? RAISED_APART : LEFT_APART, apart);
 }
 
 /* The register's sweep, after which the places of members with tallies are known. */
@@ -536,13 +446,16 @@ static void sweep_expected(struct sides *sides, struct clocks now)
 
 static void sweep_both(struct sides *sides, struct clocks now)
 {
-    struct prunepocket_reading reading = {.ntp = now.n, .rtp = now.r};
-    struct prunepocket_answered answered = prunepocket_sweep(sides->table, reading);
-    size_t before = register_count(&sides->rows);
+    tell_waiting(sides);
+
+    struct prunepocket_answered answered = prunepocket_sweep(sides->table, to_reading(now));
+    size_t before = register_count(&sides->rows), apart = count_apart(sides);
 
     sweep_expected(sides, now);
     swept += before - register_count(&sides->rows);
     take(sides, SWEEP, &answered, 0);
+    sweep_other(now);
+    count_order_if(SWEPT_APART, count_apart(sides) < apart);
 }
 
 static void count_choice(const struct choice *choice)
@@ -573,26 +486,30 @@ static bool has_equal_above(const struct plain_register *rows, const struct choi
     return false;
 }
 
+static struct prunepocket_target to_target(const struct choice *choice)
+{
+    return (struct prunepocket_target){choice->source, choice->group,     choice->media,  choice->received,
+                                       choice->rtp,    choice->presented, choice->counted};
+}
+
 static void choose_both(struct sides *sides, struct clocks now)
 {
-    struct prunepocket_reading reading = {.ntp = now.n, .rtp = now.r};
     struct choice expected = register_choose(&sides->rows, now);
-    struct prunepocket_followed followed = prunepocket_choose(sides->table, reading);
+    struct prunepocket_target target = to_target(&expected);
+    struct prunepocket_followed followed = prunepocket_choose(sides->table, to_reading(now));
 
     sides->calls++;
     count_choice(&expected);
     if (expected.equally_late > 0 && has_equal_above(&sides->rows, &expected))
         count_tally(EQUAL_HIGHER);
     same("choose", followed.number, expected.number);
-    same("source of the target", followed.target.source, expected.source);
-    same("group of the target", followed.target.group, expected.group);
-    same("media source of the target", followed.target.media, expected.media);
-    same("received of the target", followed.target.received, expected.received);
-    same("rtp of the target", followed.target.rtp, expected.rtp);
-    same("presented of the target", followed.target.presented, expected.presented);
-    same("counted", followed.target.counted, expected.counted);
+    same_target(&followed.target, &target);
     same_table(&followed.table, &sides->table);
     sides->table = followed.table;
+    tell_waiting(sides);
+    same_choice(&followed, now);
+    count_order_if(CHOSEN_APART, followed.number == 0 && is_apart(sides, expected.source));
+    count_order_if(EQUALS_APART, expected.equally_late > 0 && is_apart(sides, expected.source));
 }
 
 /* ---- Whole datagrams ---- */
@@ -615,13 +532,17 @@ struct taken {
 static void take_arrival(const struct sides *sides, const struct arrival *arrival, uint32_t reduced_size,
                          struct taken *taken)
 {
-    struct prunepocket_reading reading = {.ntp = arrival->now.n, .rtp = arrival->now.r};
-
     for (size_t i = 0; i < MOST_ITEMS; i++)
         taken->numbers[i] = fill(i);
     taken->answered =
         prunepocket_take_datagram(sides->table, arrival->bytes, arrival->length, reduced_size,
-                                  to_origin(&arrival->origin), reading, taken->numbers, MOST_ITEMS);
+                                  to_origin(&arrival->origin), to_reading(arrival->now), taken->numbers, MOST_ITEMS);
+}
+
+static void same_numbers(const char *what, const uint64_t *archive, const uint64_t *expected, size_t length)
+{
+    for (size_t i = 0; i < length; i++)
+        same(what, archive[i], expected[i]);
 }
 
 /*
@@ -642,8 +563,7 @@ static void check_alike(const struct sides *sides, const struct arrival *arrival
     same("take_datagram at reduced size beside not", taken[1].answered.number, taken[0].answered.number);
     same("its place", taken[1].answered.place, taken[0].answered.place);
     same("its count", taken[1].answered.count, taken[0].answered.count);
-    for (size_t i = 0; i < MOST_ITEMS; i++)
-        same("its list", taken[1].numbers[i], taken[0].numbers[i]);
+    same_numbers("its list", taken[1].numbers, taken[0].numbers, MOST_ITEMS);
     same_table(&taken[1].answered.table, &taken[0].answered.table);
 }
 
@@ -683,12 +603,86 @@ static void look_at_sources(const struct sides *sides, const struct decoded *dec
             look_at(sides, place_of(&sides->rows, decoded->items[i].source));
 }
 
+/* An XR packet with one block: put_report's. */
+#define REPORT_PACKET UINT32_C(0x80CF0009)
+enum { BLOCK_AT = 8, PACKET_BYTES = 40 };
+
+static bool is_report_packet(const struct arrival *arrival, const struct item *item)
+{
+    uint8_t header[4];
+
+    put_word(header, REPORT_PACKET);
+    return item->kind == REPORT && memcmp(arrival->bytes + item->place - BLOCK_AT, header, sizeof header) == 0;
+}
+
+/* The packets of two reports that stand one behind the other. */
+static void exchange_packets(struct arrival *arrival, const struct item *first)
+{
+    uint8_t *at = arrival->bytes + first->place - BLOCK_AT, packet[PACKET_BYTES];
+
+    memcpy(packet, at, PACKET_BYTES);
+    memmove(at, at + PACKET_BYTES, PACKET_BYTES);
+    memcpy(at + PACKET_BYTES, packet, PACKET_BYTES);
+}
+
+/* Exchanges as exchange_in_burst does: whether there are such reports. The items have these numbers, settings none. */
+static bool exchange_in_datagram(struct arrival *arrival, const struct decoded *decoded, const uint64_t *numbers)
+{
+    bool exchanged = false;
+
+    for (size_t i = 1; i < decoded->count; i++) {
+        const struct item *second = &decoded->items[i], *first = second - 1;
+
+        if (is_report_packet(arrival, first) && is_report_packet(arrival, second) && numbers[0] == 0 &&
+            numbers[1] == 0 && first->source != second->source && second->place == first->place + PACKET_BYTES) {
+            exchange_packets(arrival, first);
+            exchanged = true;
+            numbers++;
+            i++;
+        }
+        numbers += decoded->items[i - 1].kind != SETTINGS;
+    }
+    return exchanged;
+}
+
+/* The second site takes a datagram with reports exchanged, which leaves the list as it was: both numbers are 0. */
+static void datagram_other(const struct sides *sides, const struct arrival *arrival, struct decoded *decoded,
+                           const struct taken *first)
+{
+    static struct arrival exchanged;
+    static struct taken taken;
+    unsigned number = (unsigned)first->answered.number;
+
+    exchanged = *arrival;
+    count_order_if(EXCHANGED_IN_DATAGRAM, exchange_in_datagram(&exchanged, decoded, first->numbers));
+    take_arrival(&other.site, &exchanged, arrival->reduced_size, &taken);
+    decode(exchanged.bytes, exchanged.length, arrival->reduced_size != 0, decoded);
+    for (size_t i = 0; i < decoded->count; i++) {
+        const struct item *item = &decoded->items[i];
+        struct row row = to_row(item, &arrival->origin);
+
+        if (item->kind == REPORT)
+            register_report(&other.site.rows, &row, arrival->now);
+        else if (item->kind == FAREWELL)
+            register_farewell(&other.site.rows, item->source, &arrival->origin);
+    }
+    struct prunepocket_answered answered = {.number = taken.answered.number, .table = taken.answered.table};
+    take_other("take_datagram", &answered, decoded->refusal, number);
+    same_where = IN_OTHER_ORDER;
+    same_numbers("list of take_datagram", taken.numbers, first->numbers, MOST_ITEMS);
+    same("place of take_datagram", taken.answered.place, first->answered.place);
+    same("count of take_datagram", taken.answered.count, first->answered.count);
+    same_where = "";
+    look_at_other(sides);
+}
+
 static void datagram_both(struct sides *sides, const struct arrival *arrival)
 {
     static struct decoded decoded;
     static struct taken taken;
     uint64_t numbers[MOST_ITEMS];
 
+    tell_waiting(sides);
     check_alike(sides, arrival);
     decode(arrival->bytes, arrival->length, arrival->reduced_size != 0, &decoded);
     size_t count = numbers_expected(sides, arrival, &decoded, numbers);
@@ -701,6 +695,7 @@ static void datagram_both(struct sides *sides, const struct arrival *arrival)
     for (size_t i = 0; i < MOST_ITEMS; i++)
         same("list of take_datagram", taken.numbers[i], i < count ? numbers[i] : fill(i));
     look_at_sources(sides, &decoded);
+    datagram_other(sides, arrival, &decoded, &taken);
 }
 
 /* ---- Bursts ---- */
@@ -793,7 +788,6 @@ static void call_burst(const struct sides *sides, const struct burst *burst, boo
     struct prunepocket_record *records =
         (struct prunepocket_record *)(at_end ? report_memory.end - bytes : report_memory.start);
     uint64_t *numbers = (uint64_t *)(at_end ? list_memory.end - sizeof taken->numbers : list_memory.start);
-    struct prunepocket_reading reading = {.ntp = burst->now.n, .rtp = burst->now.r};
     static struct prunepocket_record copy[LONGEST_BURST];
 
     for (size_t i = 0; i < burst->count; i++)
@@ -801,8 +795,8 @@ static void call_burst(const struct sides *sides, const struct burst *burst, boo
     memcpy(records, copy, bytes);
     fill_numbers(numbers, AROUND_LIST);
     taken->first = at_end ? AROUND_LIST - burst->room : 0;
-    taken->answered = prunepocket_report_burst(sides->table, records, burst->count, reading, numbers + taken->first,
-                                               burst->room);
+    taken->answered = prunepocket_report_burst(sides->table, records, burst->count, to_reading(burst->now),
+                                               numbers + taken->first, burst->room);
     memcpy(taken->numbers, numbers, sizeof taken->numbers);
     same("reports of a burst are written on", memcmp(records, copy, bytes) != 0, 0);
 }
@@ -818,6 +812,44 @@ static void same_list(const struct burst_taken *taken, const uint64_t *numbers, 
     }
 }
 
+/* Each two reports one after the other that are both accepted, and of different numbers: whether there are such. */
+static bool exchange_in_burst(struct burst *burst, const uint64_t *numbers)
+{
+    bool exchanged = false;
+
+    for (size_t i = 1; i < burst->count; i++) {
+        struct row *second = &burst->rows[i], *first = second - 1, row = *first;
+
+        if (numbers[i - 1] == 0 && numbers[i] == 0 && first->source != second->source) {
+            *first = *second;
+            *second = row;
+            exchanged = true;
+            i++;
+        }
+    }
+    return exchanged;
+}
+
+/* The second site takes a burst with reports exchanged, which leaves the list as it was: both numbers are 0. */
+static void burst_other(const struct sides *sides, const struct burst *burst, unsigned number, const uint64_t *numbers)
+{
+    static struct burst exchanged;
+    static struct burst_taken taken;
+    size_t count = number == 0 ? burst->count : 0;
+
+    exchanged = *burst;
+    if (number == 0)
+        count_order_if(EXCHANGED_IN_BURST, exchange_in_burst(&exchanged, numbers));
+    call_burst(&other.site, &exchanged, true, &taken);
+    take_other("report_burst", &taken.answered, number, number);
+    same_where = IN_OTHER_ORDER;
+    for (size_t i = 0; i < count; i++)
+        same("number of the register", register_report(&other.site.rows, &exchanged.rows[i], burst->now), numbers[i]);
+    same_list(&taken, numbers, count);
+    same_where = "";
+    look_at_other(sides);
+}
+
 static void burst_both(struct sides *sides, const struct burst *burst)
 {
     static struct burst_taken at_start, at_end;
@@ -825,6 +857,7 @@ static void burst_both(struct sides *sides, const struct burst *burst)
     unsigned number = register_burst(burst->count, burst->room);
     size_t count = number == 0 ? burst->count : 0;
 
+    tell_waiting(sides);
     call_burst(sides, burst, false, &at_start);
     call_burst(sides, burst, true, &at_end);
     count_lengths(burst, number);
@@ -836,6 +869,7 @@ static void burst_both(struct sides *sides, const struct burst *burst)
     same_list(&at_start, numbers, count);
     same_list(&at_end, numbers, count);
     look(sides);
+    burst_other(sides, burst, number, numbers);
 }
 
 /* ---- The script ---- */
@@ -1022,8 +1056,10 @@ static void write_tally(struct script *script, struct sides *sides)
         uint8_t said = byte(script);
         struct from twin = row->origin;
 
+        tell_waiting(sides);
         sides->table.members[place].tally = TALLY_LIMIT - said % 4;
         register_start_tally(&sides->rows, place, TALLY_LIMIT - said % 4);
+        write_tally_other(row->source, TALLY_LIMIT - said % 4);
         twin.bytes[said / 4 % 18] ^= 1;
         farewell_both(sides, row->source, &twin);
     }
@@ -1168,11 +1204,14 @@ static void call_script(struct script *script, struct sides *sides)
 
     while (script->left > 0 && sides->calls < MOST_CALLS) {
         call_one(script, sides, &state);
-        if (sides->calls % 16 == 0)
+        if (sides->calls % 16 == 0) {
             look(sides);
+            look_at_other(sides);
+        }
     }
     choose_both(sides, state.now);
     look(sides);
+    look_at_other(sides);
 }
 
 int LLVMFuzzerTestOneInput(const uint8_t *data, size_t size);
