@@ -372,6 +372,10 @@ struct prunepocket_answered prunepocket_open(uint32_t group, uint32_t media, uin
  * member's report before, also where its received time is earlier, and the
  * member keeps its place and its tally; a new member takes the lowest free place,
  * with a tally of 0. Every other place is as before.
+ * The order in which accepted reports of different source numbers arrive decides
+ * nothing but places: where two are both accepted one after the other, so are they
+ * in the other order, and members, reports, tallies, the answers of all further
+ * calls and every target are then the same.
  * Refusals, in this order: 13 where group or media source are not the table's;
  * 14 where another origin holds the source number, and the tally of the member
  * that holds it is one higher, up to PRUNEPOCKET_TALLY_LIMIT; 15 where it was
