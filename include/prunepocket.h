@@ -29,7 +29,7 @@ extern "C" {
  * datagram at which it was met, which is 0 where there is no datagram. Number 0
  * with place 0 says that the call was not refused. After any other number, the
  * memory that was lent to the call is as before. The calls of the member table
- * answer a number alone, 0, 12 to 20, 23 or 24; that for a whole datagram answers
+ * answer a number alone, 0, 11 to 20, 23 or 24; that for a whole datagram answers
  * number and place, 0, 1 to 7 or 10. Replaying a recording answers a number
  * without a place, 0, 25, 12 or 10.
  */
@@ -50,14 +50,14 @@ struct prunepocket_answer {
 /* There is no number 8. */
 #define PRUNEPOCKET_NO_SUCH_ITEM 9  /* item index not below the item count, or the item has no such field; place 0 */
 #define PRUNEPOCKET_SHORT_BUFFER 10 /* lent array or buffer too short, but for the list of a burst; place 0 */
-#define PRUNEPOCKET_OUT_OF_RANGE 11 /* a field to be written is out of range; place 0 */
-/* Numbers 12 to 20 are of the member table, and have no place. */
+#define PRUNEPOCKET_OUT_OF_RANGE 11 /* a field to be written is out of range, place 0; or a slack above its limit */
+/* Numbers 12 to 20 are of the member table, and have no place; nor has 11 there. */
 #define PRUNEPOCKET_BAD_OPENING 12     /* group is 0 or 4294967295, or rate is outside of 1 to 192,000: no table */
-#define PRUNEPOCKET_OTHER_STREAM 13    /* report of another group or media source than the table's */
+#define PRUNEPOCKET_OTHER_STREAM 13    /* report or settings of another group or media source than the table's */
 #define PRUNEPOCKET_OTHER_ORIGIN 14    /* source number is held by another origin: a twin */
 #define PRUNEPOCKET_RECEIVED_FAR 15    /* received time is not within 30 s at or before the sender's reading */
 #define PRUNEPOCKET_RTP_AGED 16        /* RTP age is above 60 seconds of the media clock */
-#define PRUNEPOCKET_BADLY_PRESENTED 17 /* P is 1, and presentation delay over 30 s or expanded presentation 0 */
+#define PRUNEPOCKET_BADLY_PRESENTED 17 /* P is 1, and delay over 30 s or expanded presentation 0; settings: see below */
 #define PRUNEPOCKET_NO_ROOM 18         /* report of a new member, and all 64 places are held */
 #define PRUNEPOCKET_NO_MEMBER 19       /* farewell from a source number that is not held */
 #define PRUNEPOCKET_NONE_COUNTED 20    /* no member is counted, since none is fresh: there is no target */
@@ -242,8 +242,9 @@ struct prunepocket_answer prunepocket_write_sync_group(uint32_t group,
  * gets a defined answer from every call, though not that of the reports,
  * farewells and sweeps before.
  */
-#define PRUNEPOCKET_PLACES 64      /* places of a table: as many members as there can be */
-#define PRUNEPOCKET_BURST_LIMIT 64 /* the most reports of a burst */
+#define PRUNEPOCKET_PLACES 64                     /* places of a table: as many members as there can be */
+#define PRUNEPOCKET_BURST_LIMIT 64                /* the most reports of a burst */
+#define PRUNEPOCKET_SLACK_LIMIT UINT32_C(1966080) /* the greatest slack, in units of 2^-16 s: 30 s */
 
 /*
  * Where a datagram came from. Two origins are equal when all eighteen bytes of
@@ -316,6 +317,19 @@ struct prunepocket_target {
 };
 
 /*
+ * A settings packet, as the reader gives its fields: one row of
+ * prunepocket_read_items with kind PRUNEPOCKET_SETTINGS.
+ */
+struct prunepocket_settings {
+    uint32_t sender;    /* The SSRC of its sender, column 2; not looked at. */
+    uint32_t media;     /* The SSRC of the media source, column 4. */
+    uint32_t group;     /* The media stream correlation identifier, which is the group, column 3. */
+    uint64_t received;  /* The packet received NTP timestamp, column 5. */
+    uint32_t rtp;       /* The packet received RTP timestamp, column 6. */
+    uint64_t presented; /* The packet presented NTP timestamp, all 64 bits, column 7; 0 means empty. */
+};
+
+/*
  * A member table of 4,120 bytes. Its fields are the table's own: C passes the
  * struct from call to call and does not look inside. prunepocket_count_members
  * and prunepocket_member_at say what it holds.
@@ -357,6 +371,13 @@ struct prunepocket_followed {
     uint64_t number;                  /* The refusal's number, or 0 that there is none. */
     struct prunepocket_target target; /* The target, or zeros after a refusal. */
     struct prunepocket_table table;   /* The table as it was. */
+};
+
+/* What checking a settings packet answers. */
+struct prunepocket_settings_answered {
+    uint64_t number;                /* The refusal's number, or 0 that there is none. */
+    uint32_t suits;                 /* 1 where the packet suits the members, 0 where it does not or was refused. */
+    struct prunepocket_table table; /* The table as it was. */
 };
 
 /*
@@ -474,6 +495,32 @@ struct prunepocket_place prunepocket_member_at(struct prunepocket_table table, s
  */
 struct prunepocket_followed prunepocket_choose(struct prunepocket_table table,
                                                struct prunepocket_reading reading);
+
+/*
+ * Says whether a settings packet that another server sent suits the members at
+ * the reading, and hands the table back as it was. The packet's delay is presented
+ * minus received, modulo 2^64, and its lateness is a member's with that delay:
+ * rate * (delay - NTP age) + RTP age * 2^32, a signed number. Suits is 1 exactly
+ * if that is at least the lateness of every counted member, and exceeds the
+ * greatest by no more than rate * slack * 2^16. Counted are the same members as in
+ * prunepocket_choose. Slack is in units of 2^-16 s.
+ * Where suits is 1, the packet asks no counted member to present a sample earlier
+ * than its own report says. Where it is 0, and the call was not refused, either
+ * the packet asks some counted member to present every sample earlier, or it is
+ * later than the latest member by more than the slack. A target of
+ * prunepocket_choose at the same reading, as the settings packet of any sender,
+ * suits with slack 0; in arrival mode it has no presented time and gets 17.
+ * Refusals, in this order: 11 where slack is above PRUNEPOCKET_SLACK_LIMIT; 20
+ * where no member is fresh; 13 where group or media source are not the table's; 15
+ * where its received time is after the reading, or more than 30 s before it; 16
+ * where its RTP time is after the reading's, or more than 60 seconds of media
+ * clock before it; 17 where its delay is over 30 s, presented is 0, or its delay
+ * is 0. Suits is then 0.
+ */
+struct prunepocket_settings_answered prunepocket_check_settings(struct prunepocket_table table,
+                                                                struct prunepocket_settings settings,
+                                                                struct prunepocket_reading reading,
+                                                                uint32_t slack);
 
 /* ---- Recordings ---------------------------------------------------------
  *

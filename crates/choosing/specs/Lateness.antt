@@ -1,12 +1,13 @@
 -- Lateness as the code holds it: a number that is not below 0, in two words.
 use Prim.Native.Nat.{ℕ, _+_, _-_, _*_, _/_, _%_, _^_}
 use mathlib.Core.Bool.{Bool, cond, _&&_, _||_}
-use mathlib.Core.List.{[]}
+use mathlib.Core.List.{[], _∷_}
 use mathlib.Core.Path.{_≡_}
 use lib.Dec.{ltb, leb}
 use lib.IntN.{ℤ, pos}
 use lib.ListN.{getD}
-use Rattle.times.specs.Times.{ntpAge, rtpAge, thirtySeconds}
+use Rattle.idms.specs.declared.Settings.{Settings}
+use Rattle.times.specs.Times.{ntpAge, rtpAge, settingsDelay, thirtySeconds}
 use Rattle.register.specs.declared.Record.{Record}
 use Rattle.register.specs.declared.Reading.{Reading}
 use Rattle.register.specs.declared.Choice.{Choice}
@@ -28,6 +29,13 @@ biasedOf rate at row =
     biased rate (delayOf row)
     (ntpAge (at .ntp) (row .report .received))
     (rtpAge (at .rtp) (row .report .rtp))
+
+-- that of a settings packet
+abbrev pub biasedSettings : ℕ → Reading → Settings → ℕ
+biasedSettings rate at s =
+    biased rate (settingsDelay (s .received) (s .presented))
+    (ntpAge (at .ntp) (s .received))
+    (rtpAge (at .rtp) (s .rtp))
 
 abbrev pub biasedLate : ℕ → Reading → Record → ℤ
 biasedLate rate at row = pos (biasedOf rate at row)
@@ -72,3 +80,10 @@ IsLatest rate at word records place =
     (count : ℕ) →
     latestTargetFrom (biasedLate rate at) count records place []
     ≡ latestTarget (biasedLate rate at) count (markedAt word records)
+
+-- ---- the greatest
+
+-- the greatest of a number and those of rows
+unfoldable pub greatest : (Record → ℕ) → ℕ → Rows → ℕ
+greatest number most [] = most
+greatest number most (row ∷ rows) = greatest number (cond (leb (number row) most) most (number row)) rows

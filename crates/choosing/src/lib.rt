@@ -1,4 +1,7 @@
-// Choosing: one pass over the places marks the members that count, another finds the latest.
+// Choosing: one pass over the places marks the members that count, another finds the latest. Beside it, whether a
+// settings packet suits those members.
+mod verdict;
+
 use places::count_held;
 use places::with_place;
 use refusals::NONE_COUNTED;
@@ -13,6 +16,7 @@ use times::ntp_age;
 use times::presentation;
 use times::presentation_delay;
 use times::rtp_age;
+pub use verdict::verdict_at;
 ghost use mathlib.Core.Bool.{not, cond, _&&_};
 ghost use mathlib.Core.Path.{_≡_};
 ghost use Prim.Native.Nat.{_+_, _-_, _*_, _^_, _≤_, _<_};
@@ -23,7 +27,8 @@ ghost use Rattle.register.specs.Choosing.{delayOf, targetOf};
 ghost use Rattle.register.specs.Tallies.{recordsOf};
 ghost use Rattle.choosing.specs.Marked.{markedAt};
 ghost use Rattle.choosing.specs.Choose.{atRate, marksAt, countedIn, latestTarget, choiceAmong};
-ghost use Rattle.choosing.specs.Lateness.{biased, biasedLate, inTwo, candidateAt, staysLatest, latestNext};
+ghost use Rattle.choosing.specs.Lateness.{biased, biasedOf, biasedLate, inTwo};
+ghost use Rattle.choosing.specs.Lateness.{candidateAt, staysLatest, latestNext};
 ghost use Rattle.choosing.specs.Lateness.{IsLatest};
 
 // The places whose member is fresh, and those of them whose member reports presentation.
@@ -33,9 +38,9 @@ pub struct Marks {
 }
 
 // A lateness of at least 0: whole × 2^32 + part.
-struct Late {
-    whole: u64,
-    part: u64,
+pub(crate) struct Late {
+    pub(crate) whole: u64,
+    pub(crate) part: u64,
 }
 
 // The latest member so far: its place, 64 for none, with its lateness and its number.
@@ -108,7 +113,7 @@ fn saturating_sub(a: u64, b: u64) -> u64
 
 // Lateness and 30 s more, from a delay, an NTP age and an RTP age. The product of rate and time can have 81 bits: the
 // halves of the time are multiplied apart.
-fn late_by(rate: u32, delay: u64, age: u64, ticks: u32) -> Late
+pub(crate) fn late_by(rate: u32, delay: u64, age: u64, ticks: u32) -> Late
     requires { ⌜ delay ≤ 2 ^ 48 ⌝ }
     ensures { λ r. ⌜ r ≡ inTwo (biased rate delay age ticks) ⌝ }
 {
@@ -131,15 +136,22 @@ fn delay_of(row: Record) -> u64
     presentation_delay(row.report.received, row.report.presented)
 }
 
+// A member's lateness and 30 s more.
+pub(crate) fn member_lateness(row: Record, rate: u32, at: Reading) -> Late
+    ensures { λ r. ⌜ r ≡ inTwo (biasedOf rate at row) ⌝ }
+{
+    let delay = delay_of(row);
+    let age = ntp_age(at.ntp, row.report.received);
+    let ticks = rtp_age(at.rtp, row.report.rtp);
+    late_by(rate, delay, age, ticks)
+}
+
 // The member at a place, as a candidate.
 fn candidate_at(place: usize, member: Member, rate: u32, at: Reading) -> Candidate
     ensures { λ r. ⌜ r ≡ candidateAt rate at place (member .«record») ⌝ }
 {
     let row = member.record;
-    let delay = delay_of(row);
-    let age = ntp_age(at.ntp, row.report.received);
-    let ticks = rtp_age(at.rtp, row.report.rtp);
-    let late = late_by(rate, delay, age, ticks);
+    let late = member_lateness(row, rate, at);
     Candidate {
         place,
         late,
@@ -250,7 +262,7 @@ fn choice_in(word: u64, members: [Member; 64], rate: u32, at: Reading) -> Choice
 }
 
 // The members that report presentation count; where none does, all that are fresh, in arrival mode.
-fn counted_word(marks: Marks) -> u64
+pub(crate) fn counted_word(marks: Marks) -> u64
     ensures { λ r. ⌜ r ≡ countedIn marks ⌝ }
 {
     if marks.presenting == 0 {

@@ -18,6 +18,7 @@ pub struct Report {
 }
 
 // An IDMS settings packet (RFC 7272 section 7). `presented` 0 means empty.
+#[repr(C)]
 pub struct Settings {
     pub sender: u32,
     pub media: u32,

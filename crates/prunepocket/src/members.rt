@@ -1,6 +1,7 @@
 // The member table for C, which holds it by value and passes it from call to call.
 use crate::is_agreed;
 use burst::check_burst;
+use idms::Settings;
 use intake::DatagramAnswered;
 use intake::take_datagram;
 use origin::Origin;
@@ -8,6 +9,7 @@ use register::Choice;
 use register::Reading;
 use register::Record;
 use register::Target;
+use register::Verdict;
 use table::Answered;
 use table::Place;
 use table::Table;
@@ -16,16 +18,27 @@ ghost use Rattle.register.specs.Register.{Call};
 ghost use Rattle.table.specs.Members.{memberCount, placeAt};
 ghost use Rattle.table.specs.Calls.{opened, answered};
 ghost use Rattle.table.specs.Choose.{choiceOf};
+ghost use Rattle.table.specs.SettingsCheck.{verdictOn};
 ghost use Rattle.burst.specs.Burst.{burstAnswered, burstAnswersAfter};
 ghost use Rattle.intake.specs.Datagrams.{datagramAnswered, answersAfter};
 ghost use Rattle.prunepocket.specs.Answers.{agreed};
 ghost use Rattle.prunepocket.specs.Following.{noTarget, followedOf};
+ghost use Rattle.prunepocket.specs.SettingsCheck.{settingsAnswered};
 
 // What choosing answers: 0 and the target, or a refusal's number and a target of zeros; and the table as it was.
 #[repr(C)]
 pub struct Followed {
     pub number: u64,
     pub target: Target,
+    pub table: Table,
+}
+
+// What checking a settings packet answers: 0 and whether it suits, 1 or 0, or a refusal's number and 0; and the table as
+// it was.
+#[repr(C)]
+pub struct SettingsAnswered {
+    pub number: u64,
+    pub suits: u32,
     pub table: Table,
 }
 
@@ -164,4 +177,43 @@ pub extern "C" fn prunepocket_choose(t: Table, at: Reading) -> Followed
     let choice = chosen.choice;
     let table = chosen.table;
     followed_by(choice, table)
+}
+
+// A verdict as numbers alone.
+fn answered_by(verdict: Verdict, t: Table) -> SettingsAnswered
+    ensures { λ r. ⌜ r ≡ settingsAnswered verdict t ⌝ }
+{
+    match verdict {
+        Verdict::Yes => SettingsAnswered {
+            number: 0,
+            suits: 1,
+            table: t,
+        },
+        Verdict::No => SettingsAnswered {
+            number: 0,
+            suits: 0,
+            table: t,
+        },
+        Verdict::Refused(n) => SettingsAnswered {
+            number: n,
+            suits: 0,
+            table: t,
+        },
+    }
+}
+
+// Whether a settings packet suits the members at the reading, or 11, 20, 13, 15, 16 or 17.
+#[no_mangle]
+pub extern "C" fn prunepocket_check_settings(
+    t: Table,
+    s: Settings,
+    at: Reading,
+    slack: u32,
+) -> SettingsAnswered
+    ensures { λ r. ⌜ r ≡ settingsAnswered (verdictOn t s at slack) t ⌝ }
+{
+    let checked = t.check_settings(s, at, slack);
+    let verdict = checked.verdict;
+    let table = checked.table;
+    answered_by(verdict, table)
 }

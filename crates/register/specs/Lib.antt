@@ -4,3 +4,5 @@ pub mod Choosing
 pub mod Promise
 pub mod Letter
 pub mod ArrivalOrder
+pub mod SettingsCheck
+pub mod SettingsPromise

@@ -58,3 +58,10 @@ pub enum Choice {
     Target(Target),
     Refused(u64),
 }
+
+// Whether a settings packet suits the members, or a refusal's number.
+pub enum Verdict {
+    Yes,
+    No,
+    Refused(u64),
+}

@@ -8,3 +8,4 @@ pub mod Numbers
 pub mod PlaceTaken
 pub mod Refused
 pub mod ArrivalOrder
+pub mod SettingsCheck

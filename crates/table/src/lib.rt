@@ -7,6 +7,7 @@ mod tally;
 use checks::is_refused_opening;
 use choosing::choice_at;
 use choosing::marks_at;
+use choosing::verdict_at;
 use empty::empty_table;
 use empty::free_place;
 use filing::Filing;
@@ -16,6 +17,7 @@ pub use filing::report_filing;
 pub use filing::report_number_at;
 use idms::Item;
 use idms::Report;
+use idms::Settings;
 use origin::Origin;
 use places::count_held;
 use places::is_held;
@@ -25,6 +27,7 @@ use register::Member;
 use register::Reading;
 use register::Record;
 use register::ReportFields;
+use register::Verdict;
 use search::is_held_by;
 use search::member_of;
 pub use search::place_among;
@@ -36,6 +39,7 @@ ghost use Rattle.table.specs.Calls.{opened, answered};
 ghost use Rattle.table.specs.Filing.{filingOf};
 ghost use Rattle.table.specs.Choose.{chosenOf};
 ghost use Rattle.table.specs.Intake.{recordOf, taken};
+ghost use Rattle.table.specs.SettingsCheck.{settingsChecked};
 
 // A table for one group, media source and clock rate. The lowest bit of `held` marks the first place. The fields are
 // public so that a caller can store a filing in the table where it lies; every call answers every value that they have.
@@ -58,6 +62,12 @@ pub struct Answered {
 // What choosing answers, and the table as it was.
 pub struct Chosen {
     pub choice: Choice,
+    pub table: Table,
+}
+
+// What checking a settings packet answers, and the table as it was.
+pub struct SettingsChecked {
+    pub verdict: Verdict,
     pub table: Table,
 }
 
@@ -223,6 +233,28 @@ impl Table {
         let choice = choice_at(self.held, members, self.rate, at);
         Chosen {
             choice,
+            table: self,
+        }
+    }
+
+    // Whether a settings packet, another maker's, suits the counted members at the reading, with a slack in units of
+    // 2^-16 s.
+    pub fn check_settings(self, s: Settings, at: Reading, slack: u32) -> SettingsChecked
+        ensures { λ r. ⌜ r ≡ settingsChecked self s at slack ⌝ }
+    {
+        let members = self.members;
+        let verdict = verdict_at(
+            self.group,
+            self.media,
+            self.rate,
+            self.held,
+            members,
+            s,
+            at,
+            slack,
+        );
+        SettingsChecked {
+            verdict,
             table: self,
         }
     }

@@ -43,6 +43,11 @@ expanded received presented = unwrapped received presented % 2 ^ 64
 unfoldable pub delay : ℕ → ℕ → ℕ
 delay received presented = unwrapped received presented - received
 
+-- the delay of a settings packet: presented minus received, modulo 2^64 (document 02, E9). It has the whole presented
+-- time, and nothing is expanded.
+abbrev pub settingsDelay : ℕ → ℕ → ℕ
+settingsDelay received presented = differenceMod 64 presented received
+
 -- ---- checks 15, 16 and 17
 
 -- as a full time
@@ -61,6 +66,13 @@ isAged rate r rtp = ltb (60 * rate) (rtpAge r rtp)
 abbrev pub isBadlyPresented : ℕ → ℕ → Bool
 isBadlyPresented received presented =
     ltb thirtySeconds (delay received presented) || eqb (expanded received presented) 0
+
+-- 17, of a settings packet: delay over 30 s, or presented 0, which means empty, or a delay of 0
+abbrev pub settingsAreBadlyPresented : ℕ → ℕ → Bool
+settingsAreBadlyPresented received presented =
+    ltb thirtySeconds (settingsDelay received presented)
+    || eqb presented 0
+    || eqb (settingsDelay received presented) 0
 
 -- fresh: neither 15 nor 16 would be given at this reading
 abbrev pub isFresh : ℕ → ℕ → ℕ → ℕ → ℕ → Bool

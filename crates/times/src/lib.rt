@@ -2,7 +2,8 @@
 ghost use mathlib.Core.Path.{_≡_};
 ghost use Prim.Native.Nat.{_+_, _^_, _≤_};
 ghost use Rattle.times.specs.Times.{unwrapped, expanded, delay, ntpAge, rtpAge};
-ghost use Rattle.times.specs.Times.{isFar, isAged, isBadlyPresented, isFresh};
+ghost use Rattle.times.specs.Times.{settingsDelay, isFar, isAged, isBadlyPresented, isFresh};
+ghost use Rattle.times.specs.Times.{settingsAreBadlyPresented};
 
 // In units of 2^-32 s: the longest NTP age (15) and the longest presentation delay (17).
 pub const THIRTY_SECONDS: u64 = 128849018880;
@@ -70,6 +71,13 @@ pub fn presentation(received: u64, presented: u32) -> u64
     on - left - 1
 }
 
+// How long after its received time a settings packet has its sample presented. It holds both times whole.
+pub fn settings_delay(received: u64, presented: u64) -> u64
+    ensures { λ r. ⌜ r ≡ settingsDelay received presented ⌝ }
+{
+    ntp_age(presented, received)
+}
+
 // Check 15.
 pub fn is_far(n: u64, received: u64) -> bool
     ensures { λ b. ⌜ b ≡ isFar n received ⌝ }
@@ -92,6 +100,20 @@ pub fn is_badly_presented(received: u64, presented: u32) -> bool
         return true;
     }
     presentation(received, presented) == 0
+}
+
+// Check 17, of a settings packet.
+pub fn settings_are_badly_presented(received: u64, presented: u64) -> bool
+    ensures { λ b. ⌜ b ≡ settingsAreBadlyPresented received presented ⌝ }
+{
+    let delay = settings_delay(received, presented);
+    if THIRTY_SECONDS < delay {
+        return true;
+    }
+    if presented == 0 {
+        return true;
+    }
+    delay == 0
 }
 
 // Whether neither 15 nor 16 would be given.
