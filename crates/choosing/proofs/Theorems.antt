@@ -1,50 +1,23 @@
--- Choosing's part of demand 3: among 64 places it is the register's choice of the members that a word marks. The
--- counted word marks the counted rows, and the latest row is the one of greatest lateness and lowest number.
+-- Choosing's part of demand 3: among 64 places it is the register's choice of the members that a word marks. The latest
+-- row is the one of greatest lateness and lowest number.
 use Prim.Native.Nat.{ℕ}
-use mathlib.Core.Bool.{Bool, true, false, not, _&&_}
 use mathlib.Core.List.{[], _∷_, List·Permᴰ, Permᴰ·symm}
 use mathlib.Core.Path.{_≡_, refl, sym, ap, _∙_}
 use lib.ListN.{length}
 use Rattle.places.specs.Places.{heldIn}
 use Rattle.register.specs.declared.Reading.{Reading}
-use Rattle.register.specs.Register.{Opening, Rows, presents, freshAt}
-use Rattle.register.specs.Choosing.{isArrival, counted, latenessOf, choice}
+use Rattle.register.specs.Register.{Opening, Rows}
+use Rattle.register.specs.Choosing.{counted, latenessOf, choice}
 use Rattle.register.specs.Promise.{Unique, Promised}
-use Rattle.register.proofs.Rows.{filter-both, any-both}
 use Rattle.register.proofs.Unique.{unique-permuted}
 use Rattle.register.proofs.Permuted.{choice-permuted}
 use Rattle.register.proofs.Stands.{Sound}
 use Rattle.register.proofs.Promised.{choice-none, choice-of, choice-promised}
 use Rattle.choosing.specs.Marked.{markedAt}
-use Rattle.choosing.specs.Choose.{arrives, countedWord, latestTarget, choiceAmong}
-use Rattle.choosing.proofs.Laws.Marked.{marked-filterWord, word-none, ones-of-rows}
+use Rattle.choosing.specs.Choose.{countedWord, latestTarget, choiceAmong}
+use Rattle.choosing.proofs.Laws.Marked.{ones-of-rows}
+use Rattle.choosing.proofs.Laws.Counted.{counted-rows}
 use Rattle.choosing.proofs.Laws.Latest.{latest-chosen}
-
--- ---- the counted word
-
-arrives-arrival :
-    (o : Opening) (at : Reading) (word : ℕ) (ms : Rows) →
-    arrives (o .rate) at word ms ≡ isArrival o at (markedAt word ms)
-arrives-arrival o at word ms =
-    word-none (λ m. freshAt o at m && presents m) word ms
-    ∙ ap not (any-both (freshAt o at) presents (markedAt word ms))
-
-counted-rows :
-    (o : Opening) (at : Reading) (word : ℕ) (ms : Rows) →
-    markedAt (countedWord (o .rate) at word ms) ms ≡ counted o at (markedAt word ms)
-counted-rows o at word ms = go (arrives (o .rate) at word ms) refl
-  where
-    go :
-        (b : Bool) → arrives (o .rate) at word ms ≡ b →
-        markedAt (countedWord (o .rate) at word ms) ms ≡ counted o at (markedAt word ms)
-    go true e =
-        let arrival : isArrival o at (markedAt word ms) ≡ true = sym (arrives-arrival o at word ms) ∙ e in
-        rw (e, arrival) (marked-filterWord (freshAt o at) word ms)
-    go false e =
-        let arrival : isArrival o at (markedAt word ms) ≡ false = sym (arrives-arrival o at word ms) ∙ e in
-        rw (e, arrival)
-        (marked-filterWord (λ m. freshAt o at m && presents m) word ms
-        ∙ filter-both (freshAt o at) presents (markedAt word ms))
 
 -- ---- the choice
 

@@ -38,18 +38,18 @@ fn is_as_late(a: Late, b: Late) -> bool
 }
 
 // The greatest lateness after a member that a word's lowest bit marks or not.
-fn greatest_next(word: u64, so_far: Late, member: Member, rate: u32, at: Reading) -> Late
-    requires { ⌜ so_far .part < 2 ^ 32 ⌝ }
+fn greatest_next(word: u64, most: Late, member: Member, rate: u32, at: Reading) -> Late
+    requires { ⌜ most .part < 2 ^ 32 ⌝ }
     ensures { λ r. ⌜ r
-        ≡ cond (isFree word || leb (biasedOf rate at (member .«record»)) (lateValue so_far)) so_far
+        ≡ cond (isFree word || leb (biasedOf rate at (member .«record»)) (lateValue most)) most
         (inTwo (biasedOf rate at (member .«record»))) ⌝ }
 {
     if word % 2 == 0 {
-        return so_far;
+        return most;
     }
     let late = member_lateness(member.record, rate, at);
-    if is_as_late(so_far, late) {
-        return so_far;
+    if is_as_late(most, late) {
+        return most;
     }
     late
 }
@@ -58,15 +58,15 @@ fn greatest_next(word: u64, so_far: Late, member: Member, rate: u32, at: Reading
 fn greatest_lateness(word: u64, members: [Member; 64], rate: u32, at: Reading) -> Late
     ensures { λ r. ⌜ r ≡ inTwo (greatest (biasedOf rate at) 0 (markedAt word (recordsOf members))) ⌝ }
 {
-    let mut so_far = Late { whole: 0, part: 0 };
+    let mut most = Late { whole: 0, part: 0 };
     let mut rest = word;
     let mut i: usize = 0;
     while i < 64 {
-        so_far = greatest_next(rest, so_far, members[i], rate, at);
+        most = greatest_next(rest, most, members[i], rate, at);
         rest = rest / 2;
         i += 1;
     }
-    so_far
+    most
 }
 
 // By how much a exceeds b.

@@ -1,5 +1,5 @@
--- The refusal numbers (document 01, "Refusal numbers"; from 21 on, document 02), each once for all definitions. The
--- code has them under the same names (src/lib.rt). There is no number 8.
+-- The refusal numbers (document 01, "Refusal numbers"; from 21 on, and of a check of settings, document 02), each once
+-- for all definitions. The code has them under the same names (src/lib.rt). There is no number 8.
 use Prim.Native.Nat.{ℕ}
 
 -- datagram length is 0, not a multiple of 4, or over 2,048
@@ -38,7 +38,7 @@ noSuchItem = 9
 abbrev pub shortBuffer : ℕ
 shortBuffer = 10
 
--- a field to be written is out of range
+-- a field to be written is out of range; of a check of settings, a slack above 1,966,080
 abbrev pub outOfRange : ℕ
 outOfRange = 11
 
@@ -46,7 +46,7 @@ outOfRange = 11
 abbrev pub badOpening : ℕ
 badOpening = 12
 
--- report of another group or media source
+-- report or settings packet of another group or media source
 abbrev pub otherStream : ℕ
 otherStream = 13
 
@@ -62,7 +62,8 @@ receivedFar = 15
 abbrev pub rtpAged : ℕ
 rtpAged = 16
 
--- presentation delay over 30 s, or expanded presentation equal to 0
+-- presentation delay over 30 s, or expanded presentation equal to 0; of a settings packet, delay over 30 s, presented 0
+-- or a delay of 0
 abbrev pub badlyPresented : ℕ
 badlyPresented = 17
 

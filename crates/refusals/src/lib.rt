@@ -1,5 +1,5 @@
-// The refusal numbers of document 01 and, from 21 on, document 02, each once for all code. The definitions have them
-// under the same names (specs/Refusals.antt). There is no number 8.
+// The refusal numbers of document 01 and, from 21 on and of a check of settings, document 02, each once for all code. The
+// definitions have them under the same names (specs/Refusals.antt). There is no number 8.
 
 // Datagram length is 0, not a multiple of 4, or over 2,048.
 pub const BAD_LENGTH: u64 = 1;
@@ -28,13 +28,13 @@ pub const NO_SUCH_ITEM: u64 = 9;
 // Buffer shorter than the message.
 pub const SHORT_BUFFER: u64 = 10;
 
-// A field to be written is out of range.
+// A field to be written is out of range; of a check of settings, a slack above 1,966,080.
 pub const OUT_OF_RANGE: u64 = 11;
 
 // Group 0 or 4,294,967,295, or rate outside 1 to 192,000.
 pub const BAD_OPENING: u64 = 12;
 
-// Report of another group or media source.
+// Report or settings packet of another group or media source.
 pub const OTHER_STREAM: u64 = 13;
 
 // Source number held by another origin.
@@ -46,7 +46,8 @@ pub const RECEIVED_FAR: u64 = 15;
 // RTP age above 60 seconds of media clock.
 pub const RTP_AGED: u64 = 16;
 
-// Presentation delay over 30 s, or expanded presentation equal to 0.
+// Presentation delay over 30 s, or expanded presentation equal to 0; of a settings packet, delay over 30 s, presented 0 or
+// a delay of 0.
 pub const BADLY_PRESENTED: u64 = 17;
 
 // New member, and 64 places held.

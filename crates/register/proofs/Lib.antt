@@ -8,4 +8,5 @@ pub mod Permuted
 pub mod Stands
 pub mod Promised
 pub mod ArrivalOrder
+pub mod SettingsCheck
 pub mod Vectors

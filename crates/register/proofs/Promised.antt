@@ -40,16 +40,17 @@ pub fresh-none-counted : (o : Opening) (at : Reading) (rows : Rows) → fresh o 
 unfolding filter any
 fresh-none-counted o at rows e = rw e refl
 
--- a counted row is one of the rows
-counted-member :
-    (o : Opening) (at : Reading) (rows : Rows) (row : Record) → List·Memᴰ row (counted o at rows) → List·Memᴰ row rows
+-- a counted row is fresh, and one of the rows
+pub counted-member :
+    (o : Opening) (at : Reading) (rows : Rows) (row : Record) → List·Memᴰ row (counted o at rows) →
+    (freshAt o at row ≡ true) × List·Memᴰ row rows
 counted-member o at rows row member = go (isArrival o at rows) refl
   where
-    go : (t : Bool) → isArrival o at rows ≡ t → List·Memᴰ row rows
-    go true e = kept-member (freshAt o at) row rows (rw e at member) .1
+    go : (t : Bool) → isArrival o at rows ≡ t → (freshAt o at row ≡ true) × List·Memᴰ row rows
+    go true e = kept-member (freshAt o at) row rows (rw e at member)
     go false e =
         let kept : _ = kept-member presents row (fresh o at rows) (rw e at member) in
-        kept-member (freshAt o at) row rows (kept .1) .1
+        kept-member (freshAt o at) row rows (kept .1)
 
 -- ---- the answer's lateness
 
@@ -128,7 +129,7 @@ promised-greatest :
     Promised o at rows (targetOf row n)
 unfolding Promised targetLateness
 promised-greatest o at rows sound row n member greatest =
-    let belongs : _ = counted-member o at rows row member in
+    let belongs : _ = counted-member o at rows row member .1 in
     rw (delay-answered o row (sound row belongs) (presents row) refl) (
       λ other m k. ≤ℤ-shift (k *ℤ pos (2 ^ 32)) (greatest other m),
       λ late asks. least late (asks row member (pos 0)),

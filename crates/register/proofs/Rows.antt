@@ -5,8 +5,10 @@ use mathlib.Core.Bool.{Bool, true, false, not, cond, _&&_, _||_, false≢true}
 use mathlib.Core.List.{List, [], _∷_, List·Memᴰ, List·Memᴰ·head, List·Memᴰ·tail, List·Permᴰ, List·Permᴰ·nil}
 use mathlib.Core.List.{List·Permᴰ·cons, List·Permᴰ·swap, List·Permᴰ·trans, Permᴰ·refl}
 use mathlib.Core.Path.{_≡_, refl, sym, ap, _∙_}
+use lib.Dec.{eqb}
 use lib.ListN.{length}
 use native.Mathlib.Omega.{arith}
+use borrow.Author.Tests.{ne-eqb}
 use Rattle.register.specs.Register.{filter, any}
 
 -- ---- tests
@@ -133,6 +135,15 @@ none-kept {A} test (x ∷ xs) e = go (test x) refl (none-kept test xs)
     go true q rest = absurd (omega (arith, e, ap length (filter-yes test x xs q)))
     go false q rest = rest (sym (ap length (filter-no test x xs q)) ∙ e)
 
+pub none-length : {A : Type 0} (test : A → Bool) (xs : List A) → eqb (length (filter test xs)) 0 ≡ not (any test xs)
+none-length test xs = go (any test xs) refl
+  where
+    go : (t : Bool) → any test xs ≡ t → eqb (length (filter test xs)) 0 ≡ not (any test xs)
+    go true e =
+        rw e
+        (ne-eqb (length (filter test xs)) 0 (λ none. clash (sym (none-kept test xs none) ∙ e)))
+    go false e = rw (e, filter-none test xs e) refl
+
 pub length-filter-≤ : {A : Type 0} (test : A → Bool) (xs : List A) → length (filter test xs) ≤ length xs
 unfolding filter
 length-filter-≤ test [] = omega arith
@@ -176,6 +187,14 @@ filter-cong s t [] e = refl
 filter-cong s t (x ∷ xs) e =
     ap (λ (u : Bool). cond u (x ∷ filter s xs) (filter s xs)) (e x)
     ∙ ap (λ ys. cond (t x) (x ∷ ys) ys) (filter-cong s t xs e)
+
+pub any-cong :
+    {A : Type 0} (s t : A → Bool) (xs : List A) → ((x : A) → List·Memᴰ x xs → s x ≡ t x) → any s xs ≡ any t xs
+unfolding any
+any-cong s t [] e = refl
+any-cong s t (x ∷ xs) e =
+    ap (λ (u : Bool). u || any s xs) (e x (List·Memᴰ·head refl))
+    ∙ ap (λ (u : Bool). t x || u) (any-cong s t xs (λ y m. e y (List·Memᴰ·tail m)))
 
 -- none passes after those that pass are gone
 pub filter-not-none : {A : Type 0} (test : A → Bool) (xs : List A) → filter test (filter (λ x. not (test x)) xs) ≡ []

@@ -85,7 +85,7 @@ choice o at rows = firstOf (length (counted o at rows)) (chosen o at rows)
 abbrev pub delayBetween : ℕ → ℕ → ℕ
 delayBetween received presented = cond (eqb presented 0) 0 (differenceMod 64 presented received)
 
--- the lateness of three times, a settings packet's
+-- the lateness of the three times in an answer
 abbrev pub timesLateness : Opening → Reading → (received rtp presented : ℕ) → ℤ
 timesLateness o at received rtp presented =
     lateness (o .rate) (delayBetween received presented) (ntpAge (at .ntp) received) (rtpAge (at .rtp) rtp)

@@ -18,7 +18,7 @@ use Rattle.register.specs.Choosing.{lateness, counted, latenessOf}
 
 -- ---- refusals
 
--- the greatest slack: 30 s
+-- the greatest slack, in units of 2^-16 s: 30 s
 abbrev pub slackLimit : ℕ
 slackLimit = 1966080
 
@@ -40,7 +40,8 @@ isNoneCounted o at rows = eqb (length (counted o at rows)) 0
 
 -- ---- yes or no
 
--- the packet's lateness, by the same formula from its three times
+-- the packet's lateness at a reading, by the same formula from its three times. That of an answer (`timesLateness`)
+-- differs where presented is 0 alone, which gets 17 here.
 abbrev pub settingsLateness : Opening → Reading → Settings → ℤ
 settingsLateness o at s =
     lateness (o .rate) (settingsDelay (s .received) (s .presented))
@@ -51,8 +52,8 @@ settingsLateness o at s =
 abbrev pub allowance : Opening → ℕ → ℕ
 allowance o slack = o .rate * slack * 2 ^ 16
 
--- at least the lateness of every row, which is to say that no row's is greater, and exceeding the greatest by no more
--- than is allowed, which is to say that it exceeds some row's by no more
+-- at least the lateness of every row: no row's is greater. Exceeding the greatest by no more than is allowed: exceeding
+-- some row's by no more, the greatest being a row's. False without rows.
 unfoldable pub suits : (Record → ℤ) → Rows → ℤ → ℕ → Bool
 suits late rows packet allowed =
     not (any (λ row. ltZ packet (late row)) rows) && any (λ row. leZ packet (late row +ℤ pos allowed)) rows
@@ -68,9 +69,9 @@ verdict o at rows s slack =
 
 -- ---- our own choice
 
--- a target as the settings packet of a sender
-abbrev pub settingsOf : ℕ → Target → Settings
-settingsOf sender x =
+-- a target's fields as the settings packet of a sender
+abbrev pub targetSettings : (sender : ℕ) → Target → Settings
+targetSettings sender x =
     record {
       sender = sender;
       media = x .media;

@@ -1,5 +1,5 @@
--- What request E9 says of a verdict on a settings packet: what each answer means, and what it tells a venue of its
--- units. A row is a member's.
+-- Document 02, E9, as sentences: what each verdict on a settings packet means, and what it tells a venue of its units. A
+-- row is a member's.
 use Prim.Native.Nat.{ℕ, _*_, _^_, _<_}
 use mathlib.Core.List.{List, [], _∷_, List·Memᴰ}
 use mathlib.Core.Logic.{_⊎_, _↔_}
@@ -15,7 +15,7 @@ use Rattle.register.specs.declared.Verdict.{Verdict}
 use Rattle.register.specs.Register.{Opening, Rows}
 use Rattle.register.specs.Choosing.{counted, latenessOf, moment}
 use Rattle.register.specs.Promise.{AsksNoneEarlier}
-use Rattle.register.specs.Letter.{Line, Means}
+use Rattle.register.specs.Letter.{Line, NoneOf, Means}
 use Rattle.register.specs.SettingsCheck.{settingsLateness}
 
 -- ---- refusals
@@ -38,7 +38,7 @@ settingsLines o at rows s slack =
     ∷ record { number = badlyPresented; Applies = SettingsBadlyPresented s }
     ∷ []
 
--- the number of a refusal, or 0 that there is none
+-- a verdict as the papers' number: that of a refusal, and 0 for yes and for no
 abbrev pub refusalOf : Verdict → ℕ
 refusalOf Verdict.Yes = 0
 refusalOf Verdict.No = 0
@@ -52,18 +52,23 @@ IsGreatest o at rows row =
     List·Memᴰ row (counted o at rows)
     × ((other : Record) → List·Memᴰ other (counted o at rows) → latenessOf o at other ≤ℤ latenessOf o at row)
 
--- the packet's lateness is at least that of every counted row, and exceeds the greatest by no more than
--- rate × slack × 2^16
+-- the packet's lateness is at least that of every counted row, and exceeds the greatest, that of some counted row, by no
+-- more than rate × slack × 2^16
 pub record Suits (o : Opening) (at : Reading) (rows : Rows) (s : Settings) (slack : ℕ) : Type 0 where
-  pub reaches : (row : Record) → List·Memᴰ row (counted o at rows) → latenessOf o at row ≤ℤ settingsLateness o at s
-  pub within :
-      (row : Record) → IsGreatest o at rows row →
-      settingsLateness o at s ≤ℤ (latenessOf o at row +ℤ pos (o .rate * slack * 2 ^ 16))
+  pub at-least : (row : Record) → List·Memᴰ row (counted o at rows) → latenessOf o at row ≤ℤ settingsLateness o at s
+  pub within-slack :
+      (row : Record)
+      × IsGreatest o at rows row
+      × (settingsLateness o at s ≤ℤ (latenessOf o at row +ℤ pos (o .rate * slack * 2 ^ 16)))
 
--- a lateness asks some counted row for every sample earlier: for every k, its moment is before the row's
-abbrev pub AsksOneEarlier : Opening → Reading → Rows → ℤ → Type 0
-AsksOneEarlier o at rows late =
-    (row : Record) × List·Memᴰ row (counted o at rows) × ((k : ℤ) → moment late k <ℤ moment (latenessOf o at row) k)
+-- under a lateness, a row is asked for every sample earlier than its own report says: for every k, its moment is before
+-- the row's
+abbrev pub AsksEarlier : Opening → Reading → Record → ℤ → Type 0
+AsksEarlier o at row late = (k : ℤ) → moment late k <ℤ moment (latenessOf o at row) k
+
+-- some counted row is
+abbrev pub AsksSomeEarlier : Opening → Reading → Rows → ℤ → Type 0
+AsksSomeEarlier o at rows late = (row : Record) × List·Memᴰ row (counted o at rows) × AsksEarlier o at row late
 
 -- a lateness exceeds the greatest by more than rate × slack × 2^16
 abbrev pub ExceedsSlack : Opening → Reading → Rows → ℕ → ℤ → Type 0
@@ -74,19 +79,18 @@ ExceedsSlack o at rows slack late =
 pub record VerdictMeans (o : Opening) (at : Reading) (rows : Rows) (s : Settings) (slack : ℕ) (v : Verdict) : Type 0
   where
     -- each number is given exactly where its line applies and none before it does
-    pub refused : Means (settingsLines o at rows s slack) (refusalOf v)
-    -- not refused, yes exactly if the packet suits
-    pub suited : (v ≡ Verdict.Yes) ↔ ((refusalOf v ≡ 0) × Suits o at rows s slack)
+    pub refusals : Means (settingsLines o at rows s slack) (refusalOf v)
+    -- where no line applies, yes exactly if the packet suits
+    pub suited : (v ≡ Verdict.Yes) ↔ (NoneOf (settingsLines o at rows s slack) × Suits o at rows s slack)
+    -- and no exactly if it asks some counted row earlier, or exceeds the slack
+    pub unsuited :
+        (v ≡ Verdict.No)
+        ↔ (NoneOf (settingsLines o at rows s slack)
+        × (AsksSomeEarlier o at rows (settingsLateness o at s)
+        ⊎ ExceedsSlack o at rows slack (settingsLateness o at s)))
     -- yes: the packet asks no counted row for a sample earlier
     pub none-earlier : v ≡ Verdict.Yes → AsksNoneEarlier o at rows (settingsLateness o at s)
-    -- no, with a lateness below a counted row's: some counted row is asked for every sample earlier
-    pub one-earlier :
-        v ≡ Verdict.No →
-        (row : Record) → List·Memᴰ row (counted o at rows) → settingsLateness o at s <ℤ latenessOf o at row →
-        AsksOneEarlier o at rows (settingsLateness o at s)
-    -- no means either this, or that no counted row is asked earlier and the packet exceeds the slack
-    pub unsuited :
-        v ≡ Verdict.No →
-        AsksOneEarlier o at rows (settingsLateness o at s)
-        ⊎ (AsksNoneEarlier o at rows (settingsLateness o at s)
-        × ExceedsSlack o at rows slack (settingsLateness o at s))
+    -- no, with a lateness below a counted row's: that row is asked earlier
+    pub below-earlier :
+        v ≡ Verdict.No → (row : Record) → List·Memᴰ row (counted o at rows) →
+        settingsLateness o at s <ℤ latenessOf o at row → AsksEarlier o at row (settingsLateness o at s)

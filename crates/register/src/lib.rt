@@ -1,4 +1,5 @@
-// What a member table and the plain register are told, what a table holds of a member, and what choosing answers.
+// What a member table and the plain register are told, what a table holds of a member, and what choosing and checking a
+// settings packet answer.
 use origin::Origin;
 
 // A report as it stands in a row: the fields of a report item but its sender, who is the record's source. `p` is a

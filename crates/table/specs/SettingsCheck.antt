@@ -1,10 +1,13 @@
 -- Document 02, E9, on a table: whether a settings packet suits its members, over what the public calls answer (theorems:
 -- proofs/SettingsCheck.antt).
 --
--- To be believed besides: of `register` the records, SettingsCheck and SettingsPromise, with what Choosing and Promise
--- have for them, and of Letter `Line` and `Means`; of History `Reached`, with what its head names for it. `chosenOf` and
--- `settingsChecked` stand for what `Table::choose` and `Table::check_settings` answer.
+-- To be believed besides: of `idms` `Settings`; of `times` `settingsDelay`; of `register` the records, SettingsPromise,
+-- with what Choosing and Promise have for it, of Letter `Line`, `NoneOf` and `Means`, and of SettingsCheck
+-- `settingsLateness` and `targetSettings`, the rest of it being held to SettingsPromise; of History `Reached`, with what
+-- its head names for it. `chosenOf` and `settingsChecked` stand for what `Table::choose` and `Table::check_settings`
+-- answer.
 use Prim.Native.Nat.{ℕ}
+use mathlib.Core.Bool.{cond}
 use mathlib.Core.List.{List}
 use mathlib.Core.Path.{_≡_}
 use Rattle.refusals.specs.Refusals.{badlyPresented}
@@ -15,7 +18,8 @@ use Rattle.register.specs.declared.Choice.{Choice}
 use Rattle.register.specs.declared.Verdict.{Verdict}
 use Rattle.register.specs.Register.{Opening, Call}
 use Rattle.register.specs.Tallies.{Members, recordsOf}
-use Rattle.register.specs.SettingsCheck.{verdict, settingsOf}
+use Rattle.register.specs.Choosing.{isArrival}
+use Rattle.register.specs.SettingsCheck.{verdict, targetSettings}
 use Rattle.register.specs.SettingsPromise.{VerdictMeans}
 use Rattle.choosing.specs.Marked.{markedAt}
 use Rattle.table.specs.declared.Table.{Table}
@@ -42,11 +46,11 @@ EverySettings =
     (settingsChecked t s at slack ≡ record { verdict = verdict o at (recordsOf members) s slack; table = t })
     × VerdictMeans o at (recordsOf members) s slack (settingsChecked t s at slack .verdict)
 
--- our own choice, read as the settings packet of any sender: yes with slack 0 in presentation mode, where the target has
--- a presented time, and 17 in arrival mode
+-- our own choice, read as the settings packet of any sender: yes with slack 0 in presentation mode, and 17 in arrival
+-- mode, where its presented time is 0
 abbrev pub EveryOwnChoice : Type 0
 EveryOwnChoice =
     (o : Opening) (calls : List Call) (t : Table) (members : Members) → Reached o calls t members →
     (at : Reading) (x : Target) → chosenOf t at .choice ≡ Choice.Target x → (sender : ℕ) →
-    ((x .presented ≡ 0 → ⊥) → settingsChecked t (settingsOf sender x) at 0 .verdict ≡ Verdict.Yes)
-    × (x .presented ≡ 0 → settingsChecked t (settingsOf sender x) at 0 .verdict ≡ Verdict.Refused badlyPresented)
+    settingsChecked t (targetSettings sender x) at 0 .verdict
+    ≡ cond (isArrival o at (recordsOf members)) (Verdict.Refused badlyPresented) Verdict.Yes

@@ -43,8 +43,8 @@ expanded received presented = unwrapped received presented % 2 ^ 64
 unfoldable pub delay : ℕ → ℕ → ℕ
 delay received presented = unwrapped received presented - received
 
--- the delay of a settings packet: presented minus received, modulo 2^64 (document 02, E9). It has the whole presented
--- time, and nothing is expanded.
+-- the delay of a settings packet: presented minus received, modulo 2^64 (document 02, E9). The packet carries all 64
+-- bits of its presented time, so nothing is expanded.
 abbrev pub settingsDelay : ℕ → ℕ → ℕ
 settingsDelay received presented = differenceMod 64 presented received
 

@@ -5,7 +5,7 @@ use mathlib.Core.Bool.{Bool, true, false, not, cond, _&&_, and-eq-true-iff}
 use mathlib.Core.List.{[], _∷_}
 use mathlib.Core.Path.{_≡_, refl, sym, ap, _∙_}
 use lib.Dec.{leb}
-use lib.IntN.{ℤ}
+use lib.IntN.{ℤ, pos, _+ℤ_}
 use lib.Signed.{leZ}
 use native.Mathlib.Omega.{arith}
 use borrow.Author.Tests.{not-true, ltb-false, leb-true, leb-false, le-leb, lt-leb}
@@ -17,7 +17,7 @@ use Rattle.register.specs.declared.Choice.{Choice}
 use Rattle.register.specs.Register.{Rows, filter, presents, freshAt}
 use Rattle.register.specs.Choosing.{lateness, latenessOf, delayOf, precedes, targetOf}
 use Rattle.choosing.specs.Latest.{latest}
-use Rattle.register.proofs.Order.{ltZ-not-leZ, leZ-subℕ, lateness-subℕ}
+use Rattle.register.proofs.Order.{ltZ-not-leZ, leZ-subℕ, subℕ-add, lateness-subℕ}
 use Rattle.register.proofs.Rows.{filter-yes, filter-no}
 use Rattle.choosing.specs.Marked.{markedAt, filterWord}
 use Rattle.choosing.specs.Choose.{atRate, freshWord, presentingWord, arrives, countedWord, latestTarget, choiceIn}
@@ -45,7 +45,7 @@ biased-sum rate delay age ticks h =
     let product : rate * (time + age) ≡ rate * (delay + 30 * 2 ^ 32) = ap (λ (n : ℕ). rate * n) sum in
     omega (arith, product)
 
-leZ-lateness :
+pub leZ-lateness :
     (rate d a t d′ a′ t′ : ℕ) → a ≤ 30 * 2 ^ 32 → a′ ≤ 30 * 2 ^ 32 →
     leZ (lateness rate d a t) (lateness rate d′ a′ t′) ≡ leb (biased rate d a t) (biased rate d′ a′ t′)
 leZ-lateness rate d a t d′ a′ t′ h h′ =
@@ -56,9 +56,26 @@ leZ-lateness rate d a t d′ a′ t′ h h′ =
     (biased rate d′ a′ t′)
     (omega (arith, biased-sum rate d a t h, biased-sum rate d′ a′ t′ h′)))
 
+-- the same where the second lateness has an allowance
+pub leZ-allowed :
+    (rate d a t d′ a′ t′ allowed : ℕ) → a ≤ 30 * 2 ^ 32 → a′ ≤ 30 * 2 ^ 32 →
+    leZ (lateness rate d a t) (lateness rate d′ a′ t′ +ℤ pos allowed)
+    ≡ leb (biased rate d a t) (biased rate d′ a′ t′ + allowed)
+leZ-allowed rate d a t d′ a′ t′ allowed h h′ =
+    rw (
+      lateness-subℕ rate d a t,
+      lateness-subℕ rate d′ a′ t′,
+      subℕ-add (rate * d′ + t′ * 2 ^ 32) (rate * a′) allowed,
+    )
+    (leZ-subℕ (rate * d + t * 2 ^ 32) (rate * a) (rate * d′ + t′ * 2 ^ 32 + allowed) (rate * a′)
+    ∙ leb-difference (rate * d + t * 2 ^ 32 + rate * a′) (rate * d′ + t′ * 2 ^ 32 + allowed + rate * a)
+    (biased rate d a t)
+    (biased rate d′ a′ t′ + allowed)
+    (omega (arith, biased-sum rate d a t h, biased-sum rate d′ a′ t′ h′)))
+
 -- ---- the order of two fresh rows
 
-fresh-age :
+pub fresh-age :
     (rate : ℕ) (at : Reading) (row : Record) → freshAt (atRate rate) at row ≡ true →
     ntpAge (at .ntp) (row .report .received) ≤ 30 * 2 ^ 32
 fresh-age rate at row e =

@@ -53,7 +53,7 @@ in-two-sum product high low ticks e =
     let part : low % 2 ^ 32 ≡ (product + ticks * 2 ^ 32) % 2 ^ 32 = omega arith in
     rw (whole, part) refl
 
-lateValue-in-two : (n : ℕ) → lateValue (inTwo n) ≡ n
+pub lateValue-in-two : (n : ℕ) → lateValue (inTwo n) ≡ n
 lateValue-in-two n = omega arith
 
 pub in-two-biased :
