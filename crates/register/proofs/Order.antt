@@ -6,7 +6,7 @@ use mathlib.Core.List.{[], _∷_}
 use mathlib.Core.Path.{_≡_, refl, sym, ap, subst, _∙_}
 use lib.Dec.{T, leb, ltb}
 use lib.IntN.{ℤ, pos, negsuc, negℤ, subℕ, _+ℤ_, _*ℤ_}
-use lib.Signed.{leZ, ltZ, _≤ℤ_, leZ-yes, ≤ℤ-refl}
+use lib.Signed.{leZ, ltZ, _≤ℤ_, _<ℤ_, leZ-yes, ltZ-yes, ≤ℤ-refl}
 use native.Mathlib.Nat.{le-refl}
 use native.Mathlib.Omega.{arith}
 use borrow.Author.Tests.{ltb-true, ltb-false, leb-true, leb-false, lt-ltb, le-ltb, le-leb, lt-leb}
@@ -46,6 +46,12 @@ pub ≤ℤ-leZ : {a b : ℤ} → a ≤ℤ b → leZ a b ≡ true
 
 pub leZ-≤ℤ : {a b : ℤ} → leZ a b ≡ true → a ≤ℤ b
 leZ-≤ℤ e = leZ-yes (subst T (sym e) tt)
+
+pub <ℤ-ltZ : {a b : ℤ} → a <ℤ b → ltZ a b ≡ true
+<ℤ-ltZ {a} {b} h = T-true (ltZ a b) (h .lt)
+
+pub ltZ-<ℤ : {a b : ℤ} → ltZ a b ≡ true → a <ℤ b
+ltZ-<ℤ e = ltZ-yes (subst T (sym e) tt)
 
 -- ---- differences of naturals
 
@@ -166,12 +172,23 @@ pub ≤ℤ-total : (a b : ℤ) → leZ a b ≡ false → b ≤ℤ a
 +ℤ-sums : (a k : ℤ) → a +ℤ k ≡ subℕ (gain a + gain k) (loss a + loss k)
 +ℤ-sums a k = sym (ap (λ (z : ℤ). z +ℤ k) (subℕ-gain-loss a)) ∙ subℕ-sum k (gain a) (loss a)
 
-pub ≤ℤ-shift : {a b : ℤ} (k : ℤ) → a ≤ℤ b → (a +ℤ k) ≤ℤ (b +ℤ k)
-≤ℤ-shift {a} {b} k h =
+pub leZ-shift : (a b k : ℤ) → leZ (a +ℤ k) (b +ℤ k) ≡ leZ a b
+leZ-shift a b k =
     rw (+ℤ-sums a k, +ℤ-sums b k)
-    (leZ-≤ℤ
     (leZ-subℕ (gain a + gain k) (loss a + loss k) (gain b + gain k) (loss b + loss k)
-    ∙ le-leb (gain a + gain k + (loss b + loss k)) (gain b + gain k + (loss a + loss k)) (omega (arith, ≤ℤ-sums h))))
+    ∙ leb-same (gain a + gain k + (loss b + loss k)) (gain b + gain k + (loss a + loss k)) (gain a + loss b)
+    (gain b + loss a)
+    (omega arith)
+    (omega arith)
+    ∙ sym (leZ-sums a b))
+
+pub ≤ℤ-shift : {a b : ℤ} (k : ℤ) → a ≤ℤ b → (a +ℤ k) ≤ℤ (b +ℤ k)
+≤ℤ-shift {a} {b} k h = leZ-≤ℤ (leZ-shift a b k ∙ ≤ℤ-leZ h)
+
+pub <ℤ-shift : {a b : ℤ} (k : ℤ) → a <ℤ b → (a +ℤ k) <ℤ (b +ℤ k)
+<ℤ-shift {a} {b} k h =
+    ltZ-<ℤ
+    (ltZ-not-leZ (a +ℤ k) (b +ℤ k) ∙ ap not (leZ-shift b a k) ∙ sym (ltZ-not-leZ a b) ∙ <ℤ-ltZ h)
 
 -- ---- precedes
 

@@ -3,12 +3,13 @@
 use Prim.Native.Nat.{ℕ, _*_, _^_, _<_}
 use mathlib.Core.Bool.{Bool, true, false, cond, true≢false}
 use mathlib.Core.List.{[], _∷_, List·Memᴰ, List·Memᴰ·head, List·Memᴰ·tail, List·Memᴰ·not-nil}
-use mathlib.Core.Path.{_≡_, refl, sym, ap, subst}
+use mathlib.Core.Path.{_≡_, refl, sym, ap, subst, _∙_}
 use lib.Dec.{eqb, ltb}
 use lib.IntN.{ℤ, pos, _*ℤ_, +ℤ-idr}
 use lib.ListN.{length}
 use lib.Signed.{_≤ℤ_}
 use native.Mathlib.Omega.{arith}
+use borrow.Author.Tests.{not-true}
 use Rattle.refusals.specs.Refusals.{noneCounted}
 use Rattle.times.specs.Times.{differenceMod, delay, expanded, isBadlyPresented}
 use Rattle.times.proofs.Laws.{expanded-by-delay, delay-bound}
@@ -19,7 +20,8 @@ use Rattle.register.specs.Register.{presents, Opening, Rows, filter, any
 use Rattle.register.specs.Choosing.{fresh, isArrival, counted, latenessOf, precedes, precedesAll, targetOf}
 use Rattle.register.specs.Choosing.{firstOf, choice, delayBetween, targetLateness, moment}
 use Rattle.register.specs.Promise.{Promised}
-use Rattle.register.proofs.Rows.{or-false, none-kept, kept-member, member-kept}
+use Rattle.register.proofs.Rows.{clash, or-false, none-kept, kept-member, member-kept}
+use Rattle.register.proofs.Letter.Lines.{tells-any, untold}
 use Rattle.register.proofs.Order.{≤ℤ-shift, precedes-true, precedes-refl, precedes-total, precedesAll-trans}
 use Rattle.register.proofs.Permuted.{precedes-member}
 use Rattle.register.proofs.Stands.{SoundRow, Sound}
@@ -51,6 +53,21 @@ counted-member o at rows row member = go (isArrival o at rows) refl
     go false e =
         let kept : _ = kept-member presents row (fresh o at rows) (rw e at member) in
         kept-member (freshAt o at) row rows (kept .1)
+
+-- in arrival mode no counted row has P 1, otherwise each has
+pub arrival-presents :
+    (o : Opening) (at : Reading) (rows : Rows) (row : Record) → isArrival o at rows ≡ true →
+    List·Memᴰ row (counted o at rows) → presents row ≡ false
+arrival-presents o at rows row arrival member =
+    let none : any presents (fresh o at rows) ≡ false = not-true _ arrival in
+    untold (presents row) (λ h. h, λ h. h)
+    (λ is. clash (sym none ∙ tells-any presents (fresh o at rows) .1 (row, rw arrival at member, is)))
+
+pub presentation-presents :
+    (o : Opening) (at : Reading) (rows : Rows) (row : Record) → isArrival o at rows ≡ false →
+    List·Memᴰ row (counted o at rows) → presents row ≡ true
+presentation-presents o at rows row presentation member =
+    kept-member presents row (fresh o at rows) (rw presentation at member) .0
 
 -- ---- the answer's lateness
 
@@ -143,6 +160,46 @@ promised-greatest o at rows sound row n member greatest =
         latenessOf o at row ≤ℤ late
     least late h = rw (+ℤ-idr (latenessOf o at row), +ℤ-idr late) at h
 
+-- the counted row that is chosen: none is later
+pub record ChosenRow (o : Opening) (at : Reading) (rows : Rows) : Type 0 where
+  pub row : Record
+  pub member : List·Memᴰ row (counted o at rows)
+  pub greatest : (other : Record) → List·Memᴰ other (counted o at rows) → latenessOf o at other ≤ℤ latenessOf o at row
+  pub is : choice o at rows ≡ targetOf row (length (counted o at rows))
+
+pub chosen-row : (o : Opening) (at : Reading) (rows : Rows) → (counted o at rows ≡ [] → ⊥) → ChosenRow o at rows
+chosen-row o at rows some = go (counted o at rows) refl
+  where
+    go : (those : Rows) → counted o at rows ≡ those → ChosenRow o at rows
+    go [] e = absurd (some e)
+    go (a ∷ rest) e = first (filter test (a ∷ rest)) refl
+      where
+        late : Record → ℤ
+        late = latenessOf o at
+
+        test : Record → Bool
+        test row = precedesAll late row (a ∷ rest)
+
+        first : (those : Rows) → filter test (a ∷ rest) ≡ those → ChosenRow o at rows
+        first [] f =
+            let found : _ = first-exists late a rest in
+            let kept : _ = member-kept test (found .0) (a ∷ rest) (found .2) (found .1) in
+            absurd (List·Memᴰ·not-nil (subst (List·Memᴰ (found .0)) f kept))
+        first (y ∷ ys) f =
+            let kept : _ = kept-member test y (a ∷ rest) (subst (List·Memᴰ y) (sym f) (List·Memᴰ·head refl)) in
+            record {
+              row = y;
+              member = subst (List·Memᴰ y) (sym e) (kept .1);
+              greatest =
+                  λ other m.
+                  precedes-true late y other
+                  (precedes-member late y other (a ∷ rest) (kept .0) (subst (List·Memᴰ other) e m)) .0;
+              is =
+                  choice-of o at rows (a ∷ rest) e
+                  ∙ ap (firstOf (length (a ∷ rest))) f
+                  ∙ ap (λ (those : Rows). targetOf y (length those)) (sym e);
+            }
+
 pub choice-promised :
     (o : Opening) (at : Reading) (rows : Rows) → Sound o rows → Promised o at rows (choice o at rows)
 unfolding Promised
@@ -151,23 +208,8 @@ choice-promised o at rows sound = go (counted o at rows) refl
     go : (those : Rows) → counted o at rows ≡ those → Promised o at rows (choice o at rows)
     go [] e = rw (choice-none o at rows e) (refl, counted-none-fresh o at rows e)
     go (a ∷ rest) e =
-        rw (choice-of o at rows (a ∷ rest) e)
-        (first (filter test (a ∷ rest)) refl)
-      where
-        late : Record → ℤ
-        late = latenessOf o at
-
-        test : Record → Bool
-        test row = precedesAll late row (a ∷ rest)
-
-        first : (those : Rows) → filter test (a ∷ rest) ≡ those → Promised o at rows (firstOf (length (a ∷ rest)) those)
-        first [] f =
-            let found : _ = first-exists late a rest in
-            let kept : _ = member-kept test (found .0) (a ∷ rest) (found .2) (found .1) in
-            absurd (List·Memᴰ·not-nil (subst (List·Memᴰ (found .0)) f kept))
-        first (y ∷ ys) f =
-            let kept : _ = kept-member test y (a ∷ rest) (subst (List·Memᴰ y) (sym f) (List·Memᴰ·head refl)) in
-            promised-greatest o at rows sound y (length (a ∷ rest)) (subst (List·Memᴰ y) (sym e) (kept .1))
-            (λ other m.
-            precedes-true late y other
-            (precedes-member late y other (a ∷ rest) (kept .0) (subst (List·Memᴰ other) e m)) .0)
+        let chosen : _ =
+        chosen-row o at rows (λ none. List·Memᴰ·not-nil (subst (List·Memᴰ a) (sym e ∙ none) (List·Memᴰ·head refl))) in
+        rw (chosen .is)
+        (promised-greatest o at rows sound (chosen .row) (length (counted o at rows)) (chosen .member)
+        (chosen .greatest))

@@ -246,20 +246,29 @@ reached-tallies o calls t ms here =
     rw (here .table-is, here .members-are)
     (from-opened o (here .taken) calls .tallies, kept-after-all o [] calls kept-none)
 
+reached-rows :
+    (o : Opening) (calls : List Call) (t : Table) (ms : Members) → Reached o calls t ms →
+    recordsOf ms ≡ afterAll o [] calls
+unfolding recordsOf
+reached-rows o calls t ms here = ap recordsOf (here .members-are) ∙ rows-after-all o [] calls
+
+-- each row stands on an accepted report
+pub reached-sound :
+    (o : Opening) (calls : List Call) (t : Table) (ms : Members) → Reached o calls t ms → Sound o (recordsOf ms)
+reached-sound o calls t ms here = rw (reached-rows o calls t ms here) (sound-rows o calls (here .ranges))
+
 pub demand3 : EveryList
 unfolding recordsOf
 demand3 o calls t ms reached =
     let same : answersFrom (opened o .table) calls ≡ answers o [] calls =
     from-opened o (reached .taken) calls .answers-same in
-    let rows : recordsOf ms ≡ afterAll o [] calls =
-    ap recordsOf (reached .members-are) ∙ rows-after-all o [] calls in
     let holds : Holds o t (recordsOf ms) = reached-holds o calls t ms reached in
     let tallies : _ = reached-tallies o calls t ms reached in
-    let sound : Sound o (recordsOf ms) = rw rows (sound-rows o calls (reached .ranges)) in
+    let sound : Sound o (recordsOf ms) = reached-sound o calls t ms reached in
     record {
       opens = opened-holds o (reached .taken) .0;
       numbers = same;
-      rows = rows;
+      rows = reached-rows o calls t ms reached;
       agree = agreed o t ms holds (tallies .0) (tallies .1) sound;
       whole = rw same (made-of o [] calls);
       letter =
