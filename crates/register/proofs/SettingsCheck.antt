@@ -465,6 +465,16 @@ module _ (o : Opening) (at : Reading) (rows : Rows) (sender : ℕ) (row : Record
               within-slack = (row, (member, greatest), rw late none-more);
             }
 
+-- the chosen row's group is the opening's
+pub target-group :
+    (o : Opening) (at : Reading) (rows : Rows) → Sound o rows → (x : Target) → choice o at rows ≡ Choice.Target x →
+    x .group ≡ o .group
+unfolding rowSettings
+target-group o at rows sound x e =
+    let chosen : _ = chosen-row o at rows (target-counted o at rows x e) in
+    ap (λ (s : Settings). s .group) (target-row 0 x (chosen .row) _ (sym e ∙ chosen .is))
+    ∙ sound (chosen .row) (counted-member o at rows (chosen .row) (chosen .member) .1) .group
+
 -- yes with slack 0 in presentation mode, 17 in arrival mode
 pub own-verdict :
     (o : Opening) (at : Reading) (rows : Rows) → Sound o rows → (x : Target) (sender : ℕ) →

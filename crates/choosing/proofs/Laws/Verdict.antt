@@ -330,8 +330,8 @@ number-counted o at held ms s slack word number w e =
     ∙ ap (settingsChecks o s at slack) (ap (λ (n : ℕ). eqb n 0) w ∙ none-counted o at held ms)
 
 module _
-  (o : Opening) (at : Reading) (held : ℕ) (ms : Rows) (s : Settings) (slack word number : ℕ)
-  (w : word ≡ countedWord (o .rate) at held ms) (e : number ≡ settingsChecks o s at slack (eqb word 0))
+    (o : Opening) (at : Reading) (held : ℕ) (ms : Rows) (s : Settings) (slack word number : ℕ)
+    (w : word ≡ countedWord (o .rate) at held ms) (e : number ≡ settingsChecks o s at slack (eqb word 0))
   where
     pub refused-counted : (number ≡ 0 → ⊥) → Verdict.Refused number ≡ verdict o at (markedAt held ms) s slack
     refused-counted =
