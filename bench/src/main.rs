@@ -10,6 +10,7 @@ mod peer_encoder;
 mod peer_replay;
 mod peer_table;
 mod recordings;
+mod settings;
 mod tables;
 
 use inputs::{Input, Random};

@@ -1,7 +1,7 @@
 //! A member table for one synchronization group, after document 01, that is
 //! changed in place. It keeps 64 places and a word of places held.
 
-use prunepocket_sys::{Origin, Reading, Target};
+use prunepocket_sys::{Origin, Reading, Settings, Target};
 
 /// Places in a table.
 pub const PLACES: usize = 64;
@@ -11,6 +11,9 @@ const SECOND: u64 = 1 << 32;
 
 /// The greatest NTP age (15) and the greatest presentation delay (17).
 const LIMIT: u64 = 30 * SECOND;
+
+/// The greatest slack (11), in units of 2^-16 s.
+const SLACK_LIMIT: u32 = 30 << 16;
 
 /// The fields of a report item; `presented` is the short time.
 #[derive(Clone, Copy, PartialEq, Eq, Debug)]
@@ -80,6 +83,18 @@ impl Iterator for Ones {
 }
 
 impl Report {
+    /// What a settings packet shares with a report; its presented time is a full one.
+    fn of_settings(settings: &Settings) -> Report {
+        Report {
+            sender: settings.sender,
+            group: settings.group,
+            media: settings.media,
+            received: settings.received,
+            rtp: settings.rtp,
+            ..BLANK.record.report
+        }
+    }
+
     /// NTP age: (N - received) modulo 2^64.
     fn ntp_age(&self, reading: &Reading) -> u64 {
         reading.ntp.wrapping_sub(self.received)
@@ -234,6 +249,38 @@ impl Table {
         })
     }
 
+    /// Whether a settings packet is as late as the latest member or later, by the slack at most; or
+    /// the first of 11, 20, 13, 15, 16 and 17.
+    pub fn check_settings(
+        &self,
+        settings: &Settings,
+        reading: &Reading,
+        slack: u32,
+    ) -> Result<bool, u64> {
+        if slack > SLACK_LIMIT {
+            return Err(11);
+        }
+        let fresh = self.fresh(reading);
+        if fresh == 0 {
+            return Err(20);
+        }
+        let packet = Report::of_settings(settings);
+        self.check_subject(&packet)?;
+        packet.check_received(reading)?;
+        packet.check_rtp(reading, self.rate)?;
+        let delay = settings.presented.wrapping_sub(settings.received);
+        if settings.presented == 0 || delay == 0 || delay > LIMIT {
+            return Err(17);
+        }
+        let presenting = self.presenting(fresh);
+        let arrival = presenting == 0;
+        let counted = if arrival { fresh } else { presenting };
+        let excess =
+            packet.lateness(delay, reading, self.rate) - self.greatest(counted, arrival, reading);
+        let allowance = i64::from(self.rate) * (i64::from(slack) << 16);
+        Ok((0..=allowance).contains(&excess))
+    }
+
     /// How many members there are.
     pub fn count(&self) -> u32 {
         self.held.count_ones()
@@ -296,6 +343,15 @@ impl Table {
     fn select(&self, among: u64, meets: impl Fn(&Report) -> bool) -> u64 {
         Ones(among).fold(0, |word, place| {
             word | (u64::from(meets(&self.places[place].record.report)) << place)
+        })
+    }
+
+    /// The greatest lateness at these places.
+    fn greatest(&self, among: u64, arrival: bool, reading: &Reading) -> i64 {
+        Ones(among).fold(i64::MIN, |greatest, place| {
+            let report = &self.places[place].record.report;
+            let delay = if arrival { 0 } else { report.delay() };
+            greatest.max(report.lateness(delay, reading, self.rate))
         })
     }
 

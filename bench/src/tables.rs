@@ -3,6 +3,7 @@
 
 use crate::interleaved;
 use crate::peer_table as peer;
+use crate::settings;
 use prunepocket_sys::{Member, Origin, Reading, Record, Table};
 use std::hint::black_box;
 
@@ -283,7 +284,7 @@ const WITH_ROOM: &[u32] = &[0, 1, 32, 63];
 /// From one member to a full table.
 const WITH_MEMBERS: &[u32] = &[1, 32, 64];
 
-const CALLS: [Row; 10] = [
+const CALLS: [Row; 12] = [
     ("copy of the table", time_copy, ANY),
     ("report", time_report, ANY),
     ("report, wired", time_wired_report, ANY),
@@ -294,6 +295,8 @@ const CALLS: [Row; 10] = [
     ("farewell, twin, refused", time_twin_farewell, WITH_MEMBERS),
     ("sweep", time_sweep, ANY),
     ("choose", time_choose, ANY),
+    ("check settings", settings::time_check, ANY),
+    ("check settings, refused 11", settings::time_refused, &[64]),
 ];
 
 pub fn print() {

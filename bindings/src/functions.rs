@@ -2,7 +2,7 @@
 
 use crate::structs::{
     Answer, Answered, DatagramAnswered, Followed, Origin, Place, Reading, Record,
-    RecordingAnswered, Table,
+    RecordingAnswered, Settings, SettingsAnswered, Table,
 };
 
 extern "C" {
@@ -84,6 +84,12 @@ extern "C" {
     pub fn prunepocket_count_members(table: Table) -> u32;
     pub fn prunepocket_member_at(table: Table, place: usize) -> Place;
     pub fn prunepocket_choose(table: Table, reading: Reading) -> Followed;
+    pub fn prunepocket_check_settings(
+        table: Table,
+        settings: Settings,
+        reading: Reading,
+        slack: u32,
+    ) -> SettingsAnswered;
     pub fn prunepocket_replay(
         recording: *const u8,
         length: usize,

@@ -16,6 +16,7 @@ pub use messages::{
 pub use recordings::replay;
 pub use structs::{
     layout, Answer, Answered, DatagramAnswered, Followed, Member, Origin, Place, Reading, Record,
-    RecordingAnswered, ReportFields, Table, Target, BURST_LIMIT, ENTRY_ACCEPTED, ENTRY_ITEMS,
-    ENTRY_LIMIT, ENTRY_NUMBER, ENTRY_ROW, PLACES, RECORDING_LIMIT, TALLY_LIMIT,
+    RecordingAnswered, ReportFields, Settings, SettingsAnswered, Table, Target, BURST_LIMIT,
+    ENTRY_ACCEPTED, ENTRY_ITEMS, ENTRY_LIMIT, ENTRY_NUMBER, ENTRY_ROW, PLACES, RECORDING_LIMIT,
+    SLACK_LIMIT, TALLY_LIMIT,
 };

@@ -9,6 +9,9 @@ pub const PLACES: usize = 64;
 /// The most reports of a burst.
 pub const BURST_LIMIT: usize = 64;
 
+/// The greatest slack of a settings check, in units of 2^-16 s: 30 s.
+pub const SLACK_LIMIT: u32 = 1_966_080;
+
 /// Where a member's tally stops.
 pub const TALLY_LIMIT: u32 = 4_294_967_295;
 
@@ -125,6 +128,19 @@ c_structs! {
         pub counted: u32,
     }
 
+    /// A settings packet, as the reader gives its fields.
+    #[derive(Default)]
+    pub struct Settings {
+        /// Not looked at.
+        pub sender: u32,
+        pub media: u32,
+        pub group: u32,
+        pub received: u64,
+        pub rtp: u32,
+        /// All 64 bits; 0 if empty.
+        pub presented: u64,
+    }
+
     /// A member table. Its fields are its own: a host does not look at them.
     pub struct Table {
         pub group: u32,
@@ -163,6 +179,15 @@ c_structs! {
         pub number: u64,
         /// Zeros beside a refusal.
         pub target: Target,
+        /// The table as it was.
+        pub table: Table,
+    }
+
+    /// What checking a settings packet answers.
+    pub struct SettingsAnswered {
+        pub number: u64,
+        /// 1 where the packet suits the members; 0 beside a refusal.
+        pub suits: u32,
         /// The table as it was.
         pub table: Table,
     }

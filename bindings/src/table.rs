@@ -1,12 +1,13 @@
 //! The calls of the member table, which is passed by value.
 
 use crate::functions::{
-    prunepocket_choose, prunepocket_count_members, prunepocket_farewell, prunepocket_member_at,
-    prunepocket_open, prunepocket_report, prunepocket_report_burst, prunepocket_sweep,
-    prunepocket_take_datagram,
+    prunepocket_check_settings, prunepocket_choose, prunepocket_count_members,
+    prunepocket_farewell, prunepocket_member_at, prunepocket_open, prunepocket_report,
+    prunepocket_report_burst, prunepocket_sweep, prunepocket_take_datagram,
 };
 use crate::structs::{
-    Answered, DatagramAnswered, Followed, Origin, Place, Reading, Record, Table, Target,
+    Answered, DatagramAnswered, Followed, Origin, Place, Reading, Record, Settings,
+    SettingsAnswered, Table, Target,
 };
 
 impl Table {
@@ -105,6 +106,18 @@ impl Table {
         // SAFETY: as for report.
         unsafe { prunepocket_choose(*self, *reading) }
     }
+
+    /// The slack is in units of 2^-16 s.
+    #[inline]
+    pub fn check_settings(
+        &self,
+        settings: &Settings,
+        reading: &Reading,
+        slack: u32,
+    ) -> SettingsAnswered {
+        // SAFETY: as for report.
+        unsafe { prunepocket_check_settings(*self, *settings, *reading, slack) }
+    }
 }
 
 impl Followed {
@@ -113,6 +126,17 @@ impl Followed {
     pub fn choice(&self) -> Result<Target, u64> {
         match self.number {
             0 => Ok(self.target),
+            number => Err(number),
+        }
+    }
+}
+
+impl SettingsAnswered {
+    /// Whether the packet suits the members, or the refusal's number.
+    #[inline]
+    pub fn verdict(&self) -> Result<bool, u64> {
+        match self.number {
+            0 => Ok(self.suits == 1),
             number => Err(number),
         }
     }

@@ -14,6 +14,7 @@ use crate::order_faults::{self, Heard};
 use crate::places::{self, count_held_with, lowest_free_with, Held, Joins, Places, PLACES};
 use crate::register::{self, Register};
 use crate::rejoins::{self, Leaving, Leavings, LeftBy, Rejoins};
+use crate::settings_check::{Query, Suits};
 use crate::twins::AroundLimit;
 
 #[derive(Clone, Copy, Debug, PartialEq, Eq)]
@@ -182,6 +183,10 @@ impl Intake {
             Some(Fault::Orders(fault)) => fault.choose(self, reading),
             _ => self.register.choose(reading),
         }
+    }
+
+    pub fn check_settings(&self, query: &Query) -> Suits {
+        self.register.check_settings(query)
     }
 
     /// The number with the lowest key is chosen among equals.

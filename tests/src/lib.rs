@@ -1,6 +1,6 @@
 //! The independent side: a decoder, an encoder and a plain register of document
-//! 01's rules, a reader and a writer of a site file's line, seeded generators,
-//! and the comparison of all of these with libprunepocket.a.
+//! 01's rules, a reader and a writer of a site file's line, a check of settings,
+//! seeded generators, and the comparison of all of these with libprunepocket.a.
 
 pub mod archive;
 pub mod arrival_orders;
@@ -16,6 +16,7 @@ pub mod compare_burst;
 pub mod compare_intake;
 pub mod compare_orders;
 pub mod compare_replay;
+pub mod compare_settings;
 pub mod compare_site_lines;
 pub mod compare_table;
 pub mod compare_writers;
@@ -42,6 +43,13 @@ pub mod register;
 pub mod rejoins;
 pub mod replay;
 pub mod scenes;
+pub mod settings_check;
+pub mod settings_counts;
+pub mod settings_faults;
+pub mod settings_property;
+pub mod settings_queries;
+pub mod settings_tables;
+pub mod settings_times;
 pub mod sides;
 pub mod site_lines;
 pub mod sync_group;

@@ -10,6 +10,7 @@ use crate::call_history::{self, Before, CallHistory};
 use crate::members::{
     Call, Choice, Member, Opening, Origin, Reading, Record, ReportFields, Target,
 };
+use crate::settings_check::{Query, SettingsCheck, Suits};
 use std::cmp::Reverse;
 
 const SECOND: i128 = 1 << 32;
@@ -470,6 +471,16 @@ impl Register {
             (0, Some(Fault::StepZeroNoDelay)) => 0,
             _ => self.presentation(report) - i128::from(report.received),
         }
+    }
+
+    /// Whether a settings packet suits the rows.
+    pub fn check_settings(&self, query: &Query) -> Suits {
+        let check = SettingsCheck {
+            opening: self.opening,
+            members: &self.rows,
+            fault: None,
+        };
+        check.answer(query)
     }
 
     /// The member to follow at a reading, or 20.

@@ -9,6 +9,7 @@ use crate::intake::{Answer, Intake};
 use crate::members::{Call, Choice, Member, Opening, Origin, Reading, Record};
 use crate::places::Places;
 use crate::replay::replay;
+use crate::settings_check::{Query, Suits};
 use crate::sync_group::{self, LONGEST_LINE};
 use crate::table_values::with_tally;
 use prunepocket_sys::{count_items, item_field, RecordingAnswered, Refusal, Table};
@@ -33,6 +34,8 @@ pub trait Side: Clone {
         reading: &Reading,
     ) -> Result<Vec<u64>, Refusal>;
     fn choose(&self, reading: &Reading) -> Choice;
+    /// Whether a settings packet suits the members.
+    fn check_settings(&self, query: &Query) -> Suits;
     fn count_members(&self) -> u64;
     fn member_at(&self, place: usize) -> Option<Member>;
     /// The member at each place.
@@ -102,6 +105,11 @@ impl Side for Table {
 
     fn choose(&self, reading: &Reading) -> Choice {
         Table::choose(self, reading).choice()
+    }
+
+    fn check_settings(&self, query: &Query) -> Suits {
+        let (settings, reading) = (&query.settings, &query.reading);
+        Table::check_settings(self, settings, reading, query.slack).verdict()
     }
 
     fn count_members(&self) -> u64 {
@@ -187,6 +195,10 @@ impl Side for Intake {
 
     fn choose(&self, reading: &Reading) -> Choice {
         Intake::choose(self, reading)
+    }
+
+    fn check_settings(&self, query: &Query) -> Suits {
+        Intake::check_settings(self, query)
     }
 
     fn count_members(&self) -> u64 {

@@ -4,7 +4,7 @@
 use crate::call_history::TALLY_LIMIT;
 use crate::compare::{same, Verdict};
 use crate::generator::Rng;
-use crate::members::{Call, Choice, Reading};
+use crate::members::{Call, Choice, Reading, Record};
 use crate::places::PLACES;
 use prunepocket_sys::{Followed, Table};
 use std::fmt::Arguments;
@@ -17,6 +17,13 @@ const TALLIES: [u32; 5] = [0, 1, 2, TALLY_LIMIT - 1, TALLY_LIMIT];
 
 pub fn is_held(table: &Table, place: usize) -> bool {
     table.held >> place & 1 == 1
+}
+
+/// The records at the places that a word marks.
+pub fn members_at(table: &Table, word: u64) -> Vec<Record> {
+    let members = table.members.iter().enumerate();
+    let marked = members.filter(|(place, _)| word >> place & 1 == 1);
+    marked.map(|(_, member)| member.record).collect()
 }
 
 /// The place of the member with this number.

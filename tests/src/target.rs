@@ -86,6 +86,13 @@ impl AtReading<'_> {
         }
     }
 
+    /// Whether a target of some lateness asks a counted member for a sample earlier.
+    pub(crate) fn asks_earlier(&self) -> impl Fn(i128, i128) -> bool {
+        let by_presentation = self.fresh().any(|member| member.report.p == 1);
+        let counted = self.counted(by_presentation);
+        move |lateness, sample| asked_earlier(&counted, lateness, sample).is_some()
+    }
+
     fn fresh(&self) -> impl Iterator<Item = &Record> {
         let media = 60 * i128::from(self.rate);
         self.members.iter().filter(move |member| {

@@ -1,7 +1,8 @@
 //! Plants each fault in the decoder, in the encoder, in the reader and writer of
 //! site files' lines, in the register, in bursts, in the tallies, in those of new
-//! members, in the rule of places, in the order of arrival, in the intake and in the
-//! replay of recordings, and asserts that the comparison finds it.
+//! members, in the rule of places, in the order of arrival, in the intake, in the
+//! replay of recordings and in the check of settings, and asserts that the comparison
+//! finds it.
 
 use prunepocket_tests::arrival_orders::two_orders;
 use prunepocket_tests::arrivals::Course;
@@ -10,6 +11,7 @@ use prunepocket_tests::compare::{Comparison, Verdict};
 use prunepocket_tests::compare_intake::{self, IntakeComparison};
 use prunepocket_tests::compare_orders::{self, OrderComparison};
 use prunepocket_tests::compare_replay::{self, ReplayComparison};
+use prunepocket_tests::compare_settings::{self, SettingsComparison};
 use prunepocket_tests::compare_site_lines::LineComparison;
 use prunepocket_tests::compare_table::{self, TableComparison};
 use prunepocket_tests::compare_writers::WriterComparison;
@@ -18,6 +20,8 @@ use prunepocket_tests::generator::{self, Rng};
 use prunepocket_tests::histories::History;
 use prunepocket_tests::intake::Intake;
 use prunepocket_tests::members::Opening;
+use prunepocket_tests::settings_faults;
+use prunepocket_tests::settings_queries::settings_case;
 use prunepocket_tests::{arrivals, histories, limit_histories, recordings, site_lines};
 use prunepocket_tests::{burst, call_history, decoder, encoder, intake, order_faults};
 use prunepocket_tests::{places, recording, register, rejoins, replay, sync_group};
@@ -27,14 +31,14 @@ use std::iter::once;
 use std::process::exit;
 
 /// Each fault has to be found within so many datagrams, messages, lines,
-/// histories, courses or recordings.
+/// histories, courses, recordings or cases of settings.
 const BOUND: u64 = 20_000;
 
 /// Written tallies that a fault of the limit leaves alone.
 const BELOW_LIMIT: [u32; 2] = [TALLY_LIMIT - 1, TALLY_LIMIT - 2];
 
-/// Which datagram, message, line, history, course or recording showed the fault, and
-/// how.
+/// Which datagram, message, line, history, course, recording or case of settings showed
+/// the fault, and how.
 type Found = Option<(u64, String)>;
 
 fn main() {
@@ -69,6 +73,9 @@ fn main() {
         missed |= !print_found(fault, "orders", in_two_orders(seed, fault));
     }
     missed |= !recordings_find_all(seed);
+    for fault in settings_faults::Fault::all() {
+        missed |= !print_found(fault, "case", in_settings(seed, fault));
+    }
     if missed {
         exit(1);
     }
@@ -328,5 +335,18 @@ fn in_recordings(seed: u64, fault: replay::Fault) -> Found {
     )?;
     let recording = compare_replay::smallest(seed, Some(fault), &recording);
     let difference = ReplayComparison::new(seed, Some(fault)).check(&recording);
+    difference.err().map(|difference| (run, difference))
+}
+
+/// The difference is that of the smallest case with the fault in it.
+fn in_settings(seed: u64, fault: settings_faults::Fault) -> Found {
+    let mut comparison = SettingsComparison::new(seed, Some(fault));
+    let (run, case, _) = hunt(
+        generated(seed, settings_case),
+        |case| comparison.check(case),
+        |case| SettingsComparison::new(seed, None).check(case),
+    )?;
+    let case = compare_settings::smallest(seed, Some(fault), &case);
+    let difference = SettingsComparison::new(seed, Some(fault)).check(&case);
     difference.err().map(|difference| (run, difference))
 }
