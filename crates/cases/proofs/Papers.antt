@@ -9,9 +9,10 @@ use Rattle.origin.specs.Origins.{sameBytes, sameOrigin}
 use Rattle.places.specs.Places.{isHeld, heldIn, lowestFree, withPlace, withoutPlace}
 use Rattle.register.specs.declared.Choice.{Choice}
 use Rattle.register.specs.declared.Target.{Target}
-use Rattle.register.specs.Register.{reportChecks, farewellChecks}
+use Rattle.register.specs.Register.{filter, any, reportChecks, farewellChecks}
 use Rattle.register.specs.Tallies.{recordsOf, membersAfterAll}
 use Rattle.register.specs.Choosing.{lateness}
+use Rattle.register.specs.SettingsCheck.{settingsChecks, suits, verdictBy, verdict}
 use Rattle.register.specs.Promise.{AllInRange}
 use Rattle.register.specs.Letter.{BadOpening}
 use Rattle.register.specs.ArrivalOrder.{AllAccepted}
@@ -24,6 +25,7 @@ use Rattle.table.specs.Calls.{opened, numberOf, filed, refusedBy, answered}
 use Rattle.table.specs.Choose.{choiceOf}
 use Rattle.table.specs.History.{answersFrom, tableFrom}
 use Rattle.table.specs.ArrivalOrder.{AlikeButPlaces}
+use Rattle.table.specs.SettingsCheck.{verdictOn}
 use Rattle.burst.specs.Burst.{reportCalls, burstChecks, burstAnswered, burstAnswersAfter}
 use Rattle.packet.specs.Bytes.{be16, be32, be64}
 use Rattle.packet_checks.specs.Header.{kindOf, firstIsBad}
@@ -85,7 +87,8 @@ unfolding AllHold papers differenceMod step unwrapped expanded delay sameBytes s
     reportIsUnwritable reportCalls burstChecks burstAnswered burstAnswersAfter be16 be32 be64 entriesFrom bodiesEnd
     entriesIn isBadLayout entryCalls acceptedIn firstRefusal entryRow callsOfEntries entryRows lastReading replayed
     replayedRows packetCheck packetItems datagramCheck datagramItems callsIn walking walk paddingIsBad content kindOf
-    firstIsBad headCheck readable blockCheck reportAt blockItems unitCalls AllAccepted
+    firstIsBad headCheck readable blockCheck reportAt blockItems unitCalls AllAccepted filter any settingsChecks suits
+    verdictBy verdict verdictOn
 papers-hold = (
   (refl, refl),
   (
@@ -130,7 +133,16 @@ papers-hold = (
                                           (refl, refl, refl),
                                           (
                                             (refl, refl, told-apart _ _ (λ x. x .source) ten-twenty),
-                                            ((refl, refl, told-apart _ _ (λ x. x .presented) quarters), tt),
+                                            (
+                                              (refl, refl, told-apart _ _ (λ x. x .presented) quarters),
+                                              (
+                                                (refl, refl),
+                                                (
+                                                  (refl, refl, refl, refl, refl),
+                                                  ((refl, refl, refl, refl, refl, refl, refl, refl), tt),
+                                                ),
+                                              ),
+                                            ),
                                           ),
                                         ),
                                       ),

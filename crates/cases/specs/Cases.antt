@@ -1,4 +1,4 @@
--- The bench cases of document 01 that are marked P, and those of document 02, E3, E5, E6, E7 and E8, as one list of
+-- The bench cases of document 01 that are marked P, and those of document 02, E3 and E5 to E9, as one list of
 -- statements about the definitions.
 use Prim.Native.Nat.{ℕ, zero, suc, _+_, _-_, _*_, _^_}
 use mathlib.Core.Bool.{false}
@@ -14,9 +14,10 @@ use Rattle.times.specs.Times.{ntpAge, delay, expanded, isFar, isAged, isBadlyPr
 use Rattle.register.specs.declared.Record.{Record}
 use Rattle.register.specs.declared.Reading.{Reading}
 use Rattle.register.specs.declared.Choice.{Choice}
-use Rattle.register.specs.declared.Target.{Target}
+use Rattle.register.specs.declared.Verdict.{Verdict}
 use Rattle.register.specs.Register.{Opening, Call, presents}
 use Rattle.register.specs.Choosing.{latenessOf}
+use Rattle.register.specs.SettingsCheck.{targetSettings}
 use Rattle.table.specs.declared.Table.{Table}
 use Rattle.table.specs.declared.Place.{Place}
 use Rattle.table.specs.declared.Answered.{Answered}
@@ -25,6 +26,7 @@ use Rattle.table.specs.Calls.{opened, withMember, answered}
 use Rattle.table.specs.Choose.{choiceOf}
 use Rattle.table.specs.History.{answersFrom, tableFrom}
 use Rattle.table.specs.ArrivalOrder.{AlikeButPlaces}
+use Rattle.table.specs.SettingsCheck.{verdictOn}
 use Rattle.burst.specs.Burst.{burstAnswered, burstAnswersAfter}
 use Rattle.replay.specs.declared.Replayed.{Replayed}
 use Rattle.replay.specs.Replay.{replayed, replayedRows}
@@ -107,21 +109,9 @@ reportItem x =
       presented = x .report .presented;
     }
 
--- the settings of a target, from a sender
-abbrev pub settingsFor : ℕ → Target → Settings
-settingsFor sender x =
-    record {
-      sender = sender;
-      media = x .media;
-      group = x .group;
-      received = x .received;
-      rtp = x .rtp;
-      presented = x .presented;
-    }
-
 -- what the writers leave in buffers of zeros, as long as their messages
 abbrev pub settingsBytes : ℕ → Choice → List ℕ
-settingsBytes sender (Choice.Target x) = buffer (settingsMessage (settingsFor sender x)) (replicate 36 0)
+settingsBytes sender (Choice.Target x) = buffer (settingsMessage (targetSettings sender x)) (replicate 36 0)
 settingsBytes sender (Choice.Refused number) = []
 
 abbrev pub reportBytes : Report → List ℕ
@@ -420,12 +410,53 @@ E8OneNumber =
     × (answersFrom (opened opening .table) (inTurn tenLater ten) ≡ 0 ∷ 0 ∷ [])
     × (AlikeButPlaces (holding ten tenLater) (holding tenLater ten) → ⊥)
 
+-- another maker's settings packet, of a group and media source 7
+abbrev pub packetOf : (group received rtp presented : ℕ) → Settings
+packetOf group received rtp presented =
+    record { sender = 9; media = 7; group = group; received = received; rtp = rtp; presented = presented }
+
+-- P3's times, presented so many units of 2^-32 s after 998 s
+abbrev pub packetAt : ℕ → Settings
+packetAt units = packetOf 42 (seconds 998) 8820000 (seconds 998 + units)
+
+-- the verdict where P1 and P2 are held
+abbrev pub verdictWith : Settings → (slack : ℕ) → Verdict
+verdictWith s slack = verdictOn (holding ten twenty) s reading slack
+
+-- document 02, E9: our own choice passes with slack 0, and P1's own times do not, which suit the least late member alone
+abbrev pub E9Own : Type 0
+E9Own =
+    (verdictWith (packetAt 0xC0000000) 0 ≡ Verdict.Yes)
+    × (verdictWith (packetOf 42 (seconds 999) 8910000 (seconds 999 + 0x80000000)) 0 ≡ Verdict.No)
+
+-- one unit earlier is no, and one later without slack; a slack of 1 is 2^16 units, and the greatest 30 s
+abbrev pub E9Limits : Type 0
+E9Limits =
+    (verdictWith (packetAt 0xBFFFFFFF) 0 ≡ Verdict.No)
+    × (verdictWith (packetAt 0xC0000001) 0 ≡ Verdict.No)
+    × (verdictWith (packetAt (0xC0000000 + 2 ^ 16)) 1 ≡ Verdict.Yes)
+    × (verdictWith (packetAt (0xC0000000 + 2 ^ 16 + 1)) 1 ≡ Verdict.No)
+    × (verdictWith (packetAt (30 * 2 ^ 32)) 1966080 ≡ Verdict.Yes)
+
+-- each refusal, with the checks behind it failing too: 11, 20, 13, 15, 16 and 17
+abbrev pub E9Refusals : Type 0
+E9Refusals =
+    (verdictOn (opened opening .table) (packetOf 43 0 0 0) reading 1966081 ≡ Verdict.Refused 11)
+    × (verdictOn (opened opening .table) (packetOf 43 0 0 0) reading 1966080 ≡ Verdict.Refused 20)
+    × (verdictWith (packetOf 43 0 0 0) 0 ≡ Verdict.Refused 13)
+    × (verdictWith (packetOf 42 0 0 0) 0 ≡ Verdict.Refused 15)
+    × (verdictWith (packetOf 42 (seconds 998) 0 0) 0 ≡ Verdict.Refused 16)
+    × (verdictWith (packetOf 42 (seconds 998) 8820000 0) 0 ≡ Verdict.Refused 17)
+    × (verdictWith (packetAt 0) 0 ≡ Verdict.Refused 17)
+    × (verdictWith (packetAt (30 * 2 ^ 32 + 1)) 0 ≡ Verdict.Refused 17)
+
 -- all of them
 unfoldable pub papers : List (Type 0)
 papers =
     P1 ∷ P2 ∷ P3 ∷ P4 ∷ P5 ∷ P6 ∷ P7 ∷ P8 ∷ P9 ∷ P10 ∷ E3Wired ∷ E3Chosen ∷ E3AllOnes
     ∷ E5Tallied ∷ E5Rejoined ∷ E5Limit ∷ E6Twins ∷ E7Example
-    ∷ E8EitherOrder ∷ E8Tie ∷ E8OwnReadings ∷ E8OnePlaceLeft ∷ E8OneNumber ∷ []
+    ∷ E8EitherOrder ∷ E8Tie ∷ E8OwnReadings ∷ E8OnePlaceLeft ∷ E8OneNumber
+    ∷ E9Own ∷ E9Limits ∷ E9Refusals ∷ []
 
 -- every statement of a list is true
 unfoldable pub AllHold : List (Type 0) → Type 0
