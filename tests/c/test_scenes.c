@@ -778,6 +778,80 @@ static void step_write_settings(void)
     check_bytes(buffer, written);
 }
 
+/* Checks a settings packet on the table, which is handed back as it was. */
+static void check_settings(struct prunepocket_settings settings, uint32_t slack)
+{
+    int refused = is(due[0], "refused");
+    struct prunepocket_settings_answered answered =
+        prunepocket_check_settings(bench.table, settings, bench.reading, slack);
+
+    due_words(refused ? 2 : 1);
+    if (!refused && !is(due[0], "yes") && !is(due[0], "no"))
+        not_understood(due[0]);
+    bench.before = bench.table;
+    bench.table = answered.table;
+    check_equal("number", answered.number, refused ? number(due[1]) : 0);
+    check_equal("suits", answered.suits, is(due[0], "yes"));
+    check_unchanged(PRUNEPOCKET_PLACES, 0);
+}
+
+/* The settings packet that is the item at an index. */
+static struct prunepocket_settings read_settings(const uint8_t *datagram, size_t length,
+                                                 uint32_t reduced_size, uint32_t index)
+{
+    uint64_t fields[PRUNEPOCKET_FIELD_PRESENTED + 1] = {0};
+
+    for (size_t i = 0; i < sizeof fields / sizeof *fields; i++)
+        check_answer("item_field",
+                     prunepocket_item_field(datagram, length, reduced_size, index, i, &fields[i]),
+                     0, 0);
+    check_equal("kind", fields[PRUNEPOCKET_FIELD_KIND], PRUNEPOCKET_SETTINGS);
+    return (struct prunepocket_settings){
+        .sender = (uint32_t)fields[PRUNEPOCKET_FIELD_SOURCE],
+        .media = (uint32_t)fields[PRUNEPOCKET_FIELD_MEDIA],
+        .group = (uint32_t)fields[PRUNEPOCKET_FIELD_GROUP],
+        .received = fields[PRUNEPOCKET_FIELD_RECEIVED],
+        .rtp = (uint32_t)fields[PRUNEPOCKET_FIELD_RTP],
+        .presented = fields[PRUNEPOCKET_FIELD_PRESENTED],
+    };
+}
+
+static void step_check(void)
+{
+    check_settings(
+        (struct prunepocket_settings){
+            .sender = 1,
+            .media = number(asked[1]),
+            .group = number(asked[0]),
+            .received = time_of(asked[2]),
+            .rtp = number(asked[3]),
+            .presented = time_of(asked[4]),
+        },
+        number(asked[5]));
+}
+
+/* The table's own choice, zeros where there is none, is written and read back behind an RR. */
+static void step_check_own(void)
+{
+    uint8_t datagram[8 + PRUNEPOCKET_SETTINGS_BYTES] = {0x80, 0xC9, 0, 1, 0, 0, 0, 1};
+    uint64_t written = 0;
+    target_t target = prunepocket_choose(bench.table, bench.reading).target;
+
+    check_answer("write_settings",
+                 prunepocket_write_settings(1, target.group, target.media, target.received,
+                                            target.rtp, target.presented, datagram + 8,
+                                            PRUNEPOCKET_SETTINGS_BYTES, &written),
+                 0, 0);
+    check_settings(read_settings(datagram, sizeof datagram, 0, 0), number(asked[0]));
+}
+
+static void step_check_item(void)
+{
+    check_settings(
+        read_settings(bench.datagram, bench.length, bench.reduced_size, number(asked[0])),
+        number(asked[1]));
+}
+
 static void step_line(void)
 {
     size_t length = 0;
@@ -887,6 +961,9 @@ static const struct step {
     {"unchanged", 0, step_unchanged},
     {"write report", 0, step_write_report},
     {"write settings", 1, step_write_settings},
+    {"check own", 1, step_check_own}, /* before the shorter name */
+    {"check item", 2, step_check_item},
+    {"check", 6, step_check},
     {"line", 1, step_line},
     {"write line", 1, step_write_line},
     {"replay entry", 1, step_replay_entry}, /* before the shorter name */

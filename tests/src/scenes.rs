@@ -7,6 +7,8 @@ use crate::compare::{same, Verdict, BEFORE};
 use crate::encoder::Message;
 use crate::members::{Call, Choice, Opening, Origin, Reading, Record, ReportFields, Target};
 use crate::places::PLACES;
+use crate::scene_bindings::Settings;
+use crate::scene_settings::{Asked, SettingsSide, Suits};
 use crate::sides::Side;
 use crate::target::AtReading;
 use prunepocket_sys::{RecordingAnswered, Refusal, SettingsMessage, ENTRY_LIMIT, ENTRY_ROW};
@@ -24,6 +26,9 @@ const READING: Reading = Reading {
 
 const PAYLOAD_TYPE: u8 = 33;
 
+/// The sender of the settings packets that are checked, but for those of a datagram.
+const SENDER: u32 = 1;
+
 /// What `fill` sends: the words of P1's report behind source and origin.
 const P1: [&str; 3] = ["999", "8910000", "0x03E78000"];
 
@@ -35,7 +40,7 @@ pub struct Ran {
 }
 
 /// What was run, or the first line that was not understood or got another answer.
-pub fn run<S: Side>(text: &str) -> Result<Ran, String> {
+pub fn run<S: SettingsSide>(text: &str) -> Result<Ran, String> {
     let mut bench = Bench::<S>::new()?;
     let mut steps = 0;
     for (index, line) in text.lines().enumerate() {
@@ -77,7 +82,7 @@ struct Bench<S> {
     answers: usize,
 }
 
-impl<S: Side> Bench<S> {
+impl<S: SettingsSide> Bench<S> {
     fn new() -> Result<Self, String> {
         let side = S::open(&OPENING).map_err(|number| format!("opening: {number}"))?;
         Ok(Bench {
@@ -125,6 +130,7 @@ impl<S: Side> Bench<S> {
                 let answer = self.take(&self.datagram.clone(), &origin);
                 is(answer, numbers(due)?)
             }
+            (["check", asked @ ..], due) => is(self.check(asked)?, verdict(due)?),
             (asked, []) if is_setting(asked[0]) => self.set(asked),
             (asked, [due]) if is_call(asked[0]) => is(self.call(asked)?, number(due)?),
             (asked, due) => self.look(asked, due),
@@ -243,6 +249,39 @@ impl<S: Side> Bench<S> {
         }
     }
 
+    /// Whether a settings packet suits the members, which are left as they were.
+    fn check(&mut self, asked: &[&str]) -> Result<Suits, String> {
+        let (settings, slack) = match asked {
+            ["own", slack] => (self.own_settings()?, slack),
+            ["item", index, slack] => (self.settings_at(number(index)?)?, slack),
+            [fields @ .., slack] => (settings(fields)?, slack),
+            _ => return Err(String::from("not a step")),
+        };
+        let asked = Asked {
+            opening: self.opening,
+            settings,
+            reading: self.reading,
+            slack: number(slack)?,
+        };
+        self.before = self.side.clone();
+        let suits = self.side.suits(&asked);
+        self.unchanged(None)?;
+        Ok(suits)
+    }
+
+    /// The side's own choice, or zeros where there is none, written and read back
+    /// behind an RR.
+    fn own_settings(&self) -> Result<Settings, String> {
+        let target = self.side.choose(&self.reading).unwrap_or_default();
+        let message = S::write(&settings_message(SENDER, &target));
+        let message = message.map_err(|number| format!("not written: {number}"))?;
+        S::settings_at(&behind_rr(SENDER, &message), false, 0)
+    }
+
+    fn settings_at(&self, index: u64) -> Result<Settings, String> {
+        S::settings_at(&self.datagram, self.reduced_size, index)
+    }
+
     /// The answer to a question, which changes nothing but the target that steps
     /// behind it ask about.
     fn look(&mut self, asked: &[&str], due: &[&str]) -> Verdict {
@@ -352,8 +391,7 @@ impl<S: Side> Bench<S> {
 
     /// A message behind an RR of its sender is a datagram with one call.
     fn send(&mut self, sender: u32, message: &[u8], origin: &Origin) -> Result<u64, String> {
-        let rr = [0x80C9_0001, sender].map(u32::to_be_bytes).concat();
-        match self.take(&[&rr, message].concat(), origin).as_deref() {
+        match self.take(&behind_rr(sender, message), origin).as_deref() {
             Ok([number]) => Ok(*number),
             answer => Err(format!("not one call: {answer:?}")),
         }
@@ -512,6 +550,12 @@ fn records(side: &impl Side) -> Vec<Record> {
 /// The tally of the member at a place, if there is one.
 fn tally_at(side: &impl Side, place: usize) -> Option<u32> {
     side.member_at(place).map(|member| member.tally)
+}
+
+/// A message behind an RR of its sender.
+fn behind_rr(sender: u32, message: &[u8]) -> Vec<u8> {
+    let rr = [0x80C9_0001, sender].map(u32::to_be_bytes).concat();
+    [&rr, message].concat()
 }
 
 fn settings_message(sender: u32, target: &Target) -> Message {
@@ -691,6 +735,31 @@ fn presented_target(words: &[&str]) -> Result<Option<(u32, u64)>, String> {
         ["none"] => Ok(None),
         [source, presented] => Ok(Some((number(source)?, presented_time(presented)?))),
         _ => Err(format!("not an answer: {words:?}")),
+    }
+}
+
+/// Group, media source and the three times of a settings packet.
+fn settings(fields: &[&str]) -> Result<Settings, String> {
+    let [group, media, received, rtp, presented] = fields else {
+        return Err(String::from("not the fields of settings"));
+    };
+    Ok(Settings {
+        sender: SENDER,
+        media: number(media)?,
+        group: number(group)?,
+        received: time(received)?,
+        rtp: number(rtp)?,
+        presented: time(presented)?,
+    })
+}
+
+/// Whether a settings packet suits, or the number of the refusal.
+fn verdict(words: &[&str]) -> Result<Suits, String> {
+    match words {
+        ["yes"] => Ok(Ok(true)),
+        ["no"] => Ok(Ok(false)),
+        ["refused", refusal] => Ok(Err(number(refusal)?)),
+        _ => Err(format!("not a verdict: {words:?}")),
     }
 }
 
@@ -949,6 +1018,42 @@ mod tests {
         }
     }
 
+    #[test]
+    fn settings_are_checked() {
+        let p1 = "  check 42 7 999 8910000 999+0x80000000 0";
+        let later = "  check 42 7 999 8910000 999+0x80000001 0";
+        let item = "80D30008 00000001 00000007 0000002A 000003E7 00000000 0087F4B0 000003E7";
+        let items = format!("  datagram 80C90001 00000001 {item} 80000000\n  check item 0 0");
+        for (check, answer, others) in [
+            (p1, "yes", ["no", "refused 17"]),
+            (later, "no", ["yes", "refused 17"]),
+            ("  check own 0", "yes", ["no", "refused 17"]),
+            ("  check own 1966081", "refused 11", ["yes", "refused 17"]),
+            (&items, "yes", ["no", "refused 13"]),
+        ] {
+            let text = format!("{REPORT} = 0\n{check}");
+            let behind = "  unchanged\n  choose = 10 999 8910000 999+0x80000000 1\n";
+            assert!(
+                steps(&format!("{text} = {answer}\n{behind}")).is_ok(),
+                "{check}"
+            );
+            for other in others {
+                assert!(fails(&format!("{text} = {other}\n")), "{check}: {other}");
+            }
+        }
+    }
+
+    #[test]
+    fn an_item_that_is_no_settings_is_not_checked() {
+        let bye = "  datagram 80C90001 0000000A 81CB0001 0000000A\n";
+        for index in [0, 1] {
+            let text = format!("{REPORT} = 0\n{bye}  check item {index} 0 = ");
+            for answer in ["yes", "no", "refused 9", "refused 17"] {
+                assert!(fails(&format!("{text}{answer}\n")), "{index}: {answer}");
+            }
+        }
+    }
+
     const NOT_UNDERSTOOD: &[&str] = &[
         "  sweeps = 0",
         "  sweep",
@@ -969,6 +1074,18 @@ mod tests {
         "  burst 0 = 0",
         "  burst 0 0 0 = 0",
         "  burst 0 0 = free",
+        "  check",
+        "  check own = refused 20",
+        "  check own 0",
+        "  check own 0 = 20",
+        "  check own 0 = refused",
+        "  check own 0 = refused 20 0",
+        "  check own 4294967296 = refused 11",
+        "  check item 0 = refused 20",
+        "  check 42 7 999 8910000 999+1 = refused 20",
+        "  check 42 7 999 8910000 999+1 0",
+        "  check 42 7 999 8910000 - 0 = refused 20",
+        "  check 42 7 999 8910000 999+1 0 0 = refused 20",
         "  reduced size",
         "  reduced size agreed = 0",
         "  reduced size not",

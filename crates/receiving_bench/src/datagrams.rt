@@ -1,5 +1,5 @@
-// Datagrams: those of the text, and those that a unit sends, an RR and a report or a farewell. The RR's source number
-// is left 0, since no item has it.
+// Datagrams: those of the text, those that a unit sends, an RR and a report or a farewell, and those of a server, an RR
+// and settings. The RR's source number is left 0, since no item has it.
 use crate::numbers::byte_among;
 use crate::numbers::words;
 use idms::Found;
@@ -96,6 +96,22 @@ fn report_datagram(x: Record) -> [u8; 48] {
 pub(crate) fn read_report(x: Record, reduced: bool) -> Found {
     let d = report_datagram(x);
     rtcp::item_at(&d, reduced, 0)
+}
+
+// An RR, and the settings packet of 36 bytes that the writer makes.
+fn settings_datagram(x: Target, sender: u32) -> [u8; 44] {
+    let mut d = [0u8; 44];
+    d[0] = 0x80;
+    d[1] = 201;
+    d[3] = 1;
+    writer::write_settings(settings_of(x, sender), &mut d[8..]);
+    d
+}
+
+// The settings that a target gives, as a reader of the datagram finds them.
+pub(crate) fn read_settings(x: Target, sender: u32) -> Found {
+    let d = settings_datagram(x, sender);
+    rtcp::item_at(&d, false, 0)
 }
 
 // The item of an RR and a BYE packet of one source.

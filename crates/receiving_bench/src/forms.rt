@@ -37,72 +37,90 @@ pub(crate) const SWEEP: usize = 15;
 
 pub(crate) const BURST: usize = 16;
 
-pub(crate) const TAKE: usize = 17;
+pub(crate) const CHECK: usize = 17;
 
-pub(crate) const TAKE_NONE: usize = 18;
+pub(crate) const CHECK_NO: usize = 18;
 
-pub(crate) const TAKE_REFUSED: usize = 19;
+pub(crate) const CHECK_REFUSED: usize = 19;
 
-pub(crate) const ITEMS: usize = 20;
+pub(crate) const CHECK_OWN: usize = 20;
 
-pub(crate) const ITEMS_REFUSED: usize = 21;
+pub(crate) const CHECK_OWN_NO: usize = 21;
 
-pub(crate) const ITEM_REPORT: usize = 22;
+pub(crate) const CHECK_OWN_REFUSED: usize = 22;
 
-pub(crate) const ITEM_SETTINGS: usize = 23;
+pub(crate) const CHECK_ITEM: usize = 23;
 
-pub(crate) const ITEM_FAREWELL: usize = 24;
+pub(crate) const CHECK_ITEM_NO: usize = 24;
 
-pub(crate) const ITEM_REFUSED: usize = 25;
+pub(crate) const CHECK_ITEM_REFUSED: usize = 25;
 
-pub(crate) const CHOOSE: usize = 26;
+pub(crate) const TAKE: usize = 26;
 
-pub(crate) const CHOOSE_REFUSED: usize = 27;
+pub(crate) const TAKE_NONE: usize = 27;
 
-pub(crate) const LATENESS: usize = 28;
+pub(crate) const TAKE_REFUSED: usize = 28;
 
-pub(crate) const AGE: usize = 29;
+pub(crate) const ITEMS: usize = 29;
 
-pub(crate) const DELAY: usize = 30;
+pub(crate) const ITEMS_REFUSED: usize = 30;
 
-pub(crate) const MEMBERS: usize = 31;
+pub(crate) const ITEM_REPORT: usize = 31;
 
-pub(crate) const PLACE: usize = 32;
+pub(crate) const ITEM_SETTINGS: usize = 32;
 
-pub(crate) const PLACE_FREE: usize = 33;
+pub(crate) const ITEM_FAREWELL: usize = 33;
 
-pub(crate) const TALLY: usize = 34;
+pub(crate) const ITEM_REFUSED: usize = 34;
 
-pub(crate) const TALLY_NONE: usize = 35;
+pub(crate) const CHOOSE: usize = 35;
 
-pub(crate) const UNCHANGED: usize = 36;
+pub(crate) const CHOOSE_REFUSED: usize = 36;
 
-pub(crate) const UNCHANGED_BUT: usize = 37;
+pub(crate) const LATENESS: usize = 37;
 
-pub(crate) const WRITE_REPORT: usize = 38;
+pub(crate) const AGE: usize = 38;
 
-pub(crate) const WRITE_SETTINGS: usize = 39;
+pub(crate) const DELAY: usize = 39;
 
-pub(crate) const READ_LINE: usize = 40;
+pub(crate) const MEMBERS: usize = 40;
 
-pub(crate) const READ_LINE_REFUSED: usize = 41;
+pub(crate) const PLACE: usize = 41;
 
-pub(crate) const WRITE_LINE: usize = 42;
+pub(crate) const PLACE_FREE: usize = 42;
 
-pub(crate) const WRITE_LINE_REFUSED: usize = 43;
+pub(crate) const TALLY: usize = 43;
 
-pub(crate) const REPLAY: usize = 44;
+pub(crate) const TALLY_NONE: usize = 44;
 
-pub(crate) const REPLAY_REFUSED: usize = 45;
+pub(crate) const UNCHANGED: usize = 45;
 
-pub(crate) const REPLAY_ENTRY: usize = 46;
+pub(crate) const UNCHANGED_BUT: usize = 46;
 
-pub(crate) const REPLAY_TARGET: usize = 47;
+pub(crate) const WRITE_REPORT: usize = 47;
 
-pub(crate) const REPLAY_NO_TARGET: usize = 48;
+pub(crate) const WRITE_SETTINGS: usize = 48;
+
+pub(crate) const READ_LINE: usize = 49;
+
+pub(crate) const READ_LINE_REFUSED: usize = 50;
+
+pub(crate) const WRITE_LINE: usize = 51;
+
+pub(crate) const WRITE_LINE_REFUSED: usize = 52;
+
+pub(crate) const REPLAY: usize = 53;
+
+pub(crate) const REPLAY_REFUSED: usize = 54;
+
+pub(crate) const REPLAY_ENTRY: usize = 55;
+
+pub(crate) const REPLAY_TARGET: usize = 56;
+
+pub(crate) const REPLAY_NO_TARGET: usize = 57;
 
 // The form of a line that is no step, and of a step that has none of the forms.
-pub(crate) const PROSE: usize = 49;
+pub(crate) const PROSE: usize = 58;
 
 // The step at a place, with the answer that it expects. In a form # is a number, @ a time, % an origin, ? a report's
 // presented field, ! a target's presented time, & answers of calls, * words of hex, " a text; all else stands for
@@ -126,6 +144,15 @@ pub(crate) fn matched(s: &[u8], at: usize) -> Line {
           fill # # = #\n\
           sweep = #\n\
           burst # # = #\n\
+          check # # @ # @ # = yes\n\
+          check # # @ # @ # = no\n\
+          check # # @ # @ # = refused #\n\
+          check own # = yes\n\
+          check own # = no\n\
+          check own # = refused #\n\
+          check item # # = yes\n\
+          check item # # = no\n\
+          check item # # = refused #\n\
           take % =&\n\
           take % = none\n\
           take % = refused # #\n\
@@ -183,6 +210,15 @@ pub(crate) fn print_came(line: Line, s: &[u8]) {
           \x20 reports of sources $n0 to $n1: $a2\n\
           \x20 sweep: $a0\n\
           \x20 burst of $n0 reports, a list of $n1 numbers: $a2\n\
+          \x20 settings of group $n0, media source $n1, received $e2, RTP $n3, presented $e4, slack $n5: yes\n\
+          \x20 settings of group $n0, media source $n1, received $e2, RTP $n3, presented $e4, slack $n5: no\n\
+          \x20 settings of group $n0, media source $n1, received $e2, RTP $n3, presented $e4, slack $n5: $a6\n\
+          \x20 our own settings, slack $n0: yes\n\
+          \x20 our own settings, slack $n0: no\n\
+          \x20 our own settings, slack $n0: $a1\n\
+          \x20 settings at item $n0, slack $n1: yes\n\
+          \x20 settings at item $n0, slack $n1: no\n\
+          \x20 settings at item $n0, slack $n1: $a2\n\
           \x20 datagram from $o0: $l0\n\
           \x20 datagram from $o0: no report and no farewell\n\
           \x20 datagram from $o0: $a0, at byte $n1\n\

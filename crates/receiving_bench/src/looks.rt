@@ -65,7 +65,7 @@ fn choice_line(choice: Choice, scene: Scene, origin: Origin) -> Line {
 }
 
 // What choosing answers at a reading.
-fn choice_at(table: Table, reading: Reading) -> Choice {
+pub(crate) fn choice_at(table: Table, reading: Reading) -> Choice {
     let chosen = table.choose(reading);
     chosen.choice
 }

@@ -19,6 +19,11 @@
 //   burst REPORTS LENGTH = NUMBER                checks a burst of so many reports with an answer list of that length:
 //                                                where it is taken, its reports are those of the report and fill steps
 //                                                behind it, one by one
+//   check GROUP MEDIA RECEIVED RTP PRESENTED SLACK = yes | no | refused NUMBER
+//                                                whether a settings packet of sender 1 suits the members
+//   check own SLACK = yes | no | refused NUMBER  the same of the target's settings, written and read back
+//   check item INDEX SLACK = yes | no | refused NUMBER
+//                                                the same of the settings at an index of the datagram
 //   datagram HEX..                               the datagram of the steps behind it
 //   recording HEX..                              the bytes of a recording, which the steps behind it replay
 //   append HEX..                                 bytes behind those of the recording
@@ -46,11 +51,11 @@
 //   replay target = SOURCE PRESENTED | none      the choice at the end of such a run
 //
 // A number is decimal, or hex behind 0x, and has 32 bits. A TIME is SECONDS or SECONDS+UNITS, in units of 2^-32 s; so
-// are RECEIVED and a target's PRESENTED. A report's PRESENTED is the field. - as PRESENTED is P 0, or arrival mode. An
-// ORIGIN is ADDRESS:PORT, the address four decimal numbers with dots or 32 hex digits. HEX is eight hex digits. A
-// datagram that is taken in has at most seven answers, and a recording at most 4096 bytes. A TEXT stands in double
-// quotes and has at most 128 characters; in it \r is CR and \n is LF, every other character stands for itself, and none
-// is a double quote.
+// are RECEIVED and PRESENTED of a target and of settings. A report's PRESENTED is the field. - as PRESENTED is P 0, or
+// arrival mode. SLACK is in units of 2^-16 s. An ORIGIN is ADDRESS:PORT, the address four decimal numbers with dots or
+// 32 hex digits. HEX is eight hex digits. A datagram that is taken in has at most seven answers, and a recording at most
+// 4096 bytes. A TEXT stands in double quotes and has at most 128 characters; in it \r is CR and \n is LF, every other
+// character stands for itself, and none is a double quote.
 mod calls;
 mod datagrams;
 mod forms;
@@ -64,12 +69,15 @@ mod print;
 mod quotes;
 mod recordings;
 mod scene;
+mod settings;
 mod text;
 
 use crate::calls::Told;
 use crate::calls::call;
 use crate::calls::read_datagram;
 use crate::forms::BURST;
+use crate::forms::CHECK;
+use crate::forms::CHECK_ITEM_REFUSED;
 use crate::forms::ITEM_REFUSED;
 use crate::forms::ITEMS;
 use crate::forms::NO_REDUCED_SIZE;
@@ -110,6 +118,7 @@ use crate::scene::first_record;
 use crate::scene::record_behind;
 use crate::scene::scene_behind;
 use crate::scene::usual;
+use crate::settings::check_settings;
 use crate::text::byte_at;
 use crate::text::forward;
 use crate::text::line_end;
@@ -174,6 +183,7 @@ fn told(
             line: unchanged(table, earlier, line, scene),
         },
         OPEN..=BURST => call(table, line, scene),
+        CHECK..=CHECK_ITEM_REFUSED => check_settings(table, line, scene, s),
         TAKE..=ITEM_REFUSED => read_datagram(table, line, scene, s),
         READ_LINE..=WRITE_LINE_REFUSED => Told {
             table,

@@ -47,10 +47,12 @@ const PORT: usize = 17;
 
 const UNITS: usize = 18;
 
-const UNKNOWN: usize = 19;
+const HEX_UNITS: usize = 19;
+
+const UNKNOWN: usize = 20;
 
 // The phrase of the answer 0, which those of the other answers follow.
-const ANSWERS: usize = 20;
+const ANSWERS: usize = 21;
 
 const LAST_ANSWER: u64 = 25;
 
@@ -77,6 +79,7 @@ pub(crate) fn say(phrase: usize) {
           .\n\
           \x20port \n\
           \x20x 2^-32 s\n\
+          +0x\n\
           no answer of a call\n\
           accepted\n\
           length 0, over 2048 or not a multiple of 4\n\
@@ -125,6 +128,16 @@ fn print_time(t: u64) {
     print_number(thousandths / 100);
     print_number(thousandths / 10 % 10);
     print_number(thousandths % 10);
+    say(SECONDS);
+}
+
+// A full time: seconds, and units in hex where there are any.
+fn print_full_time(t: u64) {
+    print_number(t / 4294967296);
+    if t % 4294967296 != 0 {
+        say(HEX_UNITS);
+        io::print_hex(STDOUT_FILENO, t % 4294967296, 8);
+    }
     say(SECONDS);
 }
 
@@ -227,6 +240,7 @@ fn print_value(letter: u8, n: u64, origin: Origin, s: &[u8]) {
         b'n' => print_number(n),
         b'h' => print_number(n / 4294967296),
         b't' => print_time(n),
+        b'e' => print_full_time(n),
         b'd' => print_delay(n),
         b'a' => print_answer(n),
         b'l' => print_answers(n),
