@@ -25,7 +25,12 @@ use Rattle.register.specs.declared.Choice.{Choice}
 use Rattle.register.specs.declared.Reading.{Reading}
 use Rattle.register.specs.declared.Record.{Record}
 use Rattle.register.specs.declared.Target.{Target}
+use Rattle.register.specs.declared.Verdict.{Verdict}
 use Rattle.register.specs.Register.{Rows, Call}
+use Rattle.register.specs.Letter.{NoneOf}
+use Rattle.register.specs.SettingsCheck.{verdict}
+use Rattle.register.specs.SettingsPromise.{settingsLines, refusalOf}
+use Rattle.register.proofs.SettingsCheck.{verdict-accepted}
 use Rattle.datagram.specs.declared.Count.{Count}
 use Rattle.refusals.specs.Refusals.{shortBuffer, noneCounted, badLine, badGroup}
 use Rattle.packet.specs.Checks.{Check, passed, refused}
@@ -41,13 +46,17 @@ use Rattle.sdp.specs.Line.{groupMessage}
 use Rattle.sdp.specs.Answers.{groupIn}
 use Rattle.sdp.proofs.Theorems.{read-numbered}
 use Rattle.table.specs.declared.Table.{Table}
+use Rattle.choosing.specs.Marked.{markedAt}
 use Rattle.choosing.specs.Choose.{latestTarget, choiceAmong}
+use Rattle.table.specs.Members.{openingOf, recordsIn}
 use Rattle.table.specs.Choose.{choiceOf}
+use Rattle.table.specs.SettingsCheck.{verdictOn}
 use Rattle.intake.specs.Datagrams.{callsIn, callsAnswered, answeredUnless, datagramAnswered}
 use Rattle.prunepocket.specs.Answers.{countAnswer, cellAnswer, fieldAnswer}
 use Rattle.prunepocket.specs.Messages.{reportMessageWithP, writeAnswer}
 use Rattle.prunepocket.specs.SiteFile.{groupAnswer}
 use Rattle.prunepocket.specs.Following.{followedOf}
+use Rattle.prunepocket.specs.SettingsCheck.{settingsAnswered}
 
 -- ---- the calls that read
 
@@ -231,3 +240,19 @@ pub choose-accepted :
     (t : Table) (at : Reading)
     → (followedOf (choiceOf t at) t .number ≡ 0) ↔ ((x : Target) × (choiceOf t at ≡ Choice.Target x))
 choose-accepted t at = followed-accepted (choiceOf t at) t (choice-numbered t at)
+
+settings-number : (v : Verdict) (t : Table) → settingsAnswered v t .number ≡ refusalOf v
+unfolding settingsAnswered
+settings-number Verdict.Yes t = refl
+settings-number Verdict.No t = refl
+settings-number (Verdict.Refused n) t = refl
+
+-- prunepocket_check_settings: no line of the table of refusals applies, for every table value
+pub check-settings-accepted :
+    (t : Table) (s : Settings) (at : Reading) (slack : ℕ)
+    → (settingsAnswered (verdictOn t s at slack) t .number ≡ 0)
+    ↔ NoneOf (settingsLines (openingOf t) at (markedAt (t .held) (recordsIn t)) s slack)
+unfolding verdictOn
+check-settings-accepted t s at slack =
+    rw (settings-number (verdict (openingOf t) at (markedAt (t .held) (recordsIn t)) s slack) t)
+    (verdict-accepted (openingOf t) at (markedAt (t .held) (recordsIn t)) s slack)

@@ -246,6 +246,10 @@ module _ (o : Opening) (at : Reading) (rows : Rows) (s : Settings) (slack : ℕ)
   unfolding NoneOf MeansBehind
   unrefused = settings-means o at rows s slack .1 .1 .1 .1 .1 .1
 
+  pub verdict-accepted : (refusalOf (verdict o at rows s slack) ≡ 0) ↔ NoneOf (settingsLines o at rows s slack)
+  unfolding verdict
+  verdict-accepted = rw (number-by number fit) unrefused
+
   some-counted : NoneOf (settingsLines o at rows s slack) → counted o at rows ≡ [] → ⊥
   unfolding NoneOf
   some-counted none = none .1 .0
