@@ -104,6 +104,39 @@
  * 100: among equally late members the one at the lowest place is chosen
  * 101: an accepted report of a new member raises the tally of the member at the held place before its own
  * 102: the member whose report was accepted last is followed, where it is counted
+ * 103: settings are compared with the earliest counted member
+ * 104: slack is taken in units of 2^-32 s
+ * 105: the greatest slack gets 11
+ * 106: settings that are later by all of the slack do not suit
+ * 107: settings that are as late as the latest member do not suit
+ * 108: the 13 of settings comes before their 20
+ * 109: the 11 of a check comes after its 20
+ * 110: settings with presented 0 are taken
+ * 111: settings with a delay of 0 are taken
+ * 112: the presented time of settings is cut to 32 bits
+ * 113: settings whose sender has a member's number get 13
+ * 114: a check of settings that suit raises a tally
+ * 115: a slack above its limit is taken as the limit
+ * 116: settings are compared with members of P 0 too
+ * 117: settings are compared with members up to 60 s old
+ * 118: settings get 20 in arrival mode
+ * 119: the 16 of settings comes before their 15
+ * 120: the 17 of settings comes before their 16
+ * 121: settings received 30 s ago get 15
+ * 122: settings with an RTP age of 60 seconds exactly get 16
+ * 123: settings with a delay of 30 s get 17
+ * 124: refused settings suit
+ * 125: the delay of settings is looked at in units of 2^-16 s, so that 30 s and a unit are taken
+ * 126: group and media source of settings are exchanged
+ * 127: no settings are too late
+ * 128: no settings are too early
+ * 129: settings are compared in whole milliseconds
+ * 130: settings received after N as a plain number get 15
+ * 131: after a refused check, the table's first place is not held
+ * 132: settings are compared with the counted member at the lowest place
+ * 133: the slack in units of 2^-32 s is cut to 32 bits
+ * 134: settings whose presented time as a plain number is below received get 17
+ * 135: the media source of settings is not looked at
  */
 #include "../tests/c/lateness.h"
 #include "prunepocket.h"
@@ -146,6 +179,12 @@ struct prunepocket_answered __wrap_prunepocket_report_burst(struct prunepocket_t
                                                             size_t, struct prunepocket_reading, uint64_t *, size_t);
 struct prunepocket_followed __real_prunepocket_choose(struct prunepocket_table, struct prunepocket_reading);
 struct prunepocket_followed __wrap_prunepocket_choose(struct prunepocket_table, struct prunepocket_reading);
+struct prunepocket_settings_answered __real_prunepocket_check_settings(struct prunepocket_table,
+                                                                       struct prunepocket_settings,
+                                                                       struct prunepocket_reading, uint32_t);
+struct prunepocket_settings_answered __wrap_prunepocket_check_settings(struct prunepocket_table,
+                                                                       struct prunepocket_settings,
+                                                                       struct prunepocket_reading, uint32_t);
 struct prunepocket_recording_answered __real_prunepocket_replay(const uint8_t *, size_t, uint64_t *, size_t);
 struct prunepocket_recording_answered __wrap_prunepocket_replay(const uint8_t *, size_t, uint64_t *, size_t);
 struct prunepocket_answer __real_prunepocket_read_sync_group(const uint8_t *, size_t, uint32_t *);
@@ -563,6 +602,176 @@ struct prunepocket_followed __wrap_prunepocket_choose(struct prunepocket_table t
     if (ARCHIVE_FAULT == 102 && followed.number == PRUNEPOCKET_ACCEPTED)
         followed.target = choose_last_heard(table, reading, followed.target);
     return followed;
+}
+
+/* What a check of settings is told. */
+struct check {
+    struct prunepocket_settings settings;
+    struct prunepocket_reading reading;
+    uint32_t slack;
+};
+
+/* Whether 20 applies. */
+static int none_counted(const struct prunepocket_table *table, const struct check *check)
+{
+    struct prunepocket_followed followed = __real_prunepocket_choose(*table, check->reading);
+
+    return followed.number != PRUNEPOCKET_ACCEPTED || (ARCHIVE_FAULT == 118 && followed.target.presented == 0);
+}
+
+/* Whether 13 applies. */
+static int other_stream(const struct prunepocket_table *table, const struct prunepocket_settings *settings)
+{
+    if (ARCHIVE_FAULT == 113 && place_of(table, settings->sender, 1) < PRUNEPOCKET_PLACES)
+        return 1;
+    if (ARCHIVE_FAULT == 126)
+        return settings->group != table->media || settings->media != table->group;
+    return settings->group != table->group || (ARCHIVE_FAULT != 135 && settings->media != table->media);
+}
+
+/* Whether 15 applies. */
+static int received_far(const struct check *check)
+{
+    uint64_t age = check->reading.ntp - check->settings.received;
+
+    return age > (UINT64_C(30) << 32) - (ARCHIVE_FAULT == 121) ||
+           (ARCHIVE_FAULT == 130 && check->settings.received > check->reading.ntp);
+}
+
+/* Whether 17 applies. */
+static int badly_presented(const struct prunepocket_settings *settings)
+{
+    uint64_t delay = settings->presented - settings->received;
+    uint64_t most = (UINT64_C(30) << 32) - (ARCHIVE_FAULT == 123) + (ARCHIVE_FAULT == 125 ? 65535 : 0);
+
+    return delay > most || (ARCHIVE_FAULT != 110 && settings->presented == 0) || (ARCHIVE_FAULT != 111 && delay == 0) ||
+           (ARCHIVE_FAULT == 134 && settings->presented < settings->received);
+}
+
+static int applies(uint64_t number, const struct prunepocket_table *table, const struct check *check)
+{
+    uint32_t rtp_age = check->reading.rtp - check->settings.rtp;
+
+    switch (number) {
+    case PRUNEPOCKET_OUT_OF_RANGE:
+        return ARCHIVE_FAULT != 115 && check->slack > PRUNEPOCKET_SLACK_LIMIT - (ARCHIVE_FAULT == 105);
+    case PRUNEPOCKET_NONE_COUNTED:
+        return none_counted(table, check);
+    case PRUNEPOCKET_OTHER_STREAM:
+        return other_stream(table, &check->settings);
+    case PRUNEPOCKET_RECEIVED_FAR:
+        return received_far(check);
+    case PRUNEPOCKET_RTP_AGED:
+        return rtp_age > UINT64_C(60) * table->rate - (ARCHIVE_FAULT == 122);
+    default:
+        return badly_presented(&check->settings);
+    }
+}
+
+/* The first refusal that applies, in the paper's order or in another. */
+static uint64_t settings_number(const struct prunepocket_table *table, const struct check *check)
+{
+    uint64_t order[] = {11, 20, 13, 15, 16, 17};
+    size_t exchanged = ARCHIVE_FAULT == 109 ? 1 : ARCHIVE_FAULT == 108 ? 2 : ARCHIVE_FAULT == 119 ? 4 : 5;
+
+    if (ARCHIVE_FAULT == 109 || ARCHIVE_FAULT == 108 || ARCHIVE_FAULT == 119 || ARCHIVE_FAULT == 120) {
+        uint64_t second = order[exchanged];
+
+        order[exchanged] = order[exchanged - 1];
+        order[exchanged - 1] = second;
+    }
+    for (size_t i = 0; i < sizeof order / sizeof order[0]; i++)
+        if (applies(order[i], table, check))
+            return order[i];
+    return PRUNEPOCKET_ACCEPTED;
+}
+
+/* The target where a member alone is held, at the reading or where it was received: whether there is one. */
+static int target_at(struct prunepocket_table table, struct prunepocket_reading reading, size_t place,
+                     struct prunepocket_target *target)
+{
+    const struct prunepocket_report_fields *report = &table.members[place].record.report;
+    uint64_t ntp_age = reading.ntp - report->received;
+    uint32_t rtp_age = reading.rtp - report->rtp;
+    struct prunepocket_followed alone;
+
+    table.held &= UINT64_C(1) << place;
+    if (ARCHIVE_FAULT == 117 && ntp_age <= UINT64_C(60) << 32 && rtp_age <= UINT64_C(60) * table.rate)
+        reading = (struct prunepocket_reading){report->received, report->rtp};
+    alone = __real_prunepocket_choose(table, reading);
+    *target = alone.target;
+    return alone.number == PRUNEPOCKET_ACCEPTED;
+}
+
+/* The lateness of the member that settings are compared with: the latest, or another. 20 does not apply. */
+static int64_t compared_with(const struct prunepocket_table *table, struct prunepocket_reading reading)
+{
+    struct prunepocket_target chosen = __real_prunepocket_choose(*table, reading).target, at;
+    int64_t late = lateness(chosen, table->rate, reading);
+
+    for (size_t place = 0; place < PRUNEPOCKET_PLACES; place++) {
+        int any = ARCHIVE_FAULT == 116 && target_at(*table, reading, place, &at);
+        int counted = target_at(*table, reading, place, &at) && (at.presented == 0) == (chosen.presented == 0);
+        int64_t its = any || counted ? lateness(at, table->rate, reading) : late;
+
+        if (ARCHIVE_FAULT == 132 && counted)
+            return its;
+        if (ARCHIVE_FAULT == 103 ? its < late : its > late)
+            late = its;
+    }
+    return late;
+}
+
+/* As much later as settings may be, in units of lateness. */
+static int64_t allowed_by(uint32_t rate, uint32_t slack)
+{
+    if (ARCHIVE_FAULT == 104)
+        return (int64_t)rate * slack;
+    if (ARCHIVE_FAULT == 133)
+        return (int64_t)rate * (uint32_t)(slack << 16);
+    return (int64_t)rate * slack * 65536;
+}
+
+static int settings_suit(const struct prunepocket_table *table, const struct check *check)
+{
+    struct prunepocket_target times = {.received = check->settings.received,
+                                       .rtp = check->settings.rtp,
+                                       .presented = check->settings.presented};
+    uint32_t slack = check->slack > PRUNEPOCKET_SLACK_LIMIT ? PRUNEPOCKET_SLACK_LIMIT : check->slack;
+    int64_t allowed = allowed_by(table->rate, slack);
+    int64_t excess = lateness(times, table->rate, check->reading) - compared_with(table, check->reading);
+
+    if (ARCHIVE_FAULT == 129) {
+        int64_t millisecond = ((int64_t)table->rate << 32) / 1000;
+
+        return excess / millisecond >= 0 && excess / millisecond <= allowed / millisecond;
+    }
+    if (ARCHIVE_FAULT == 106 && allowed > 0 && excess == allowed)
+        return 0;
+    if (ARCHIVE_FAULT == 107 && excess == 0)
+        return 0;
+    return (excess >= 0 || ARCHIVE_FAULT == 128) && (excess <= allowed || ARCHIVE_FAULT == 127);
+}
+
+struct prunepocket_settings_answered __wrap_prunepocket_check_settings(struct prunepocket_table table,
+                                                                       struct prunepocket_settings settings,
+                                                                       struct prunepocket_reading reading,
+                                                                       uint32_t slack)
+{
+    struct prunepocket_settings_answered answered = __real_prunepocket_check_settings(table, settings, reading, slack);
+    struct check check = {settings, reading, slack};
+
+    if (ARCHIVE_FAULT < 103)
+        return answered;
+    if (ARCHIVE_FAULT == 112)
+        check.settings.presented &= UINT32_MAX;
+    answered.number = settings_number(&table, &check);
+    answered.suits = answered.number == PRUNEPOCKET_ACCEPTED ? settings_suit(&table, &check) : ARCHIVE_FAULT == 124;
+    if (ARCHIVE_FAULT == 114 && answered.suits)
+        answered.table.members[next_held(&table, 0)].tally ^= 1;
+    if (ARCHIVE_FAULT == 131 && answered.number != PRUNEPOCKET_ACCEPTED)
+        answered.table.held &= ~UINT64_C(1);
+    return answered;
 }
 
 /* What a replay is told. */

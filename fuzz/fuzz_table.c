@@ -1,8 +1,8 @@
 /*
  * Takes every input as a script of calls, gives them to the archive's member table and to the plain register, and
  * aborts where an answer, a member, its place, its tally or the target differs, or where a burst writes outside of the
- * numbers that its list is to get. A second site takes reports in the other order (other_order.h). What a datagram has
- * is the decoder's word. The form of a script is in README.md.
+ * numbers that its list is to get. A second site takes reports in the other order (other_order.h), and both check
+ * settings packets (settings.h). What a datagram has is the decoder's word. The form of a script is in README.md.
  */
 #include "decoder.h"
 #include "lend.h"
@@ -11,6 +11,7 @@
 #include "register.h"
 #include "same.h"
 #include "script.h"
+#include "settings.h"
 #include "shares.h"
 #include "sides.h"
 
@@ -210,6 +211,7 @@ static void print_met(void)
     print_shares("tallies", tally_shares, tallies_met, TALLY_CASES, enough_of(reports));
     print_shares("bursts", burst_shares, bursts_met, BURST_CASES, enough_of(bursts));
     print_shares("the other order", order_shares, orders_met, ORDER_CASES, enough_of(reports));
+    print_checks(enough_of(checks));
     fprintf(stderr, "reports replaced: %" PRIu64 "; members swept: %" PRIu64 "; at most %" PRIu64
                     " members; looks at all members: %" PRIu64 "\n",
             replaced, swept, most_rows, looks);
@@ -506,6 +508,8 @@ static void choose_both(struct sides *sides, struct clocks now)
     same_target(&followed.target, &target);
     same_table(&followed.table, &sides->table);
     sides->table = followed.table;
+    if (followed.number == 0)
+        check_own(sides, &followed.target, now);
     tell_waiting(sides);
     same_choice(&followed, now);
     count_order_if(CHOSEN_APART, followed.number == 0 && is_apart(sides, expected.source));
@@ -1065,16 +1069,24 @@ static void write_tally(struct script *script, struct sides *sides)
     }
 }
 
+/* Where a row is just fresh or just not. */
+static struct clocks limit_of(struct script *script, const struct row *row, uint32_t rate)
+{
+    struct clocks limit;
+
+    limit.n = row->report.received + ntp_age(script);
+    limit.r = row->report.rtp + rtp_age(script, rate);
+    return limit;
+}
+
 /* Choosing where a member is just fresh or just not, and sometimes a sweep there. */
 static void choose_at_limit(struct script *script, struct sides *sides, uint8_t said)
 {
     const struct row *row = row_said(script, &sides->rows);
 
     if (row) {
-        struct clocks limit;
+        struct clocks limit = limit_of(script, row, sides->rows.rate);
 
-        limit.n = row->report.received + ntp_age(script);
-        limit.r = row->report.rtp + rtp_age(script, sides->rows.rate);
         choose_both(sides, limit);
         if (said & 16)
             sweep_both(sides, limit);
@@ -1133,6 +1145,17 @@ static void call_report(struct script *script, struct sides *sides, uint8_t said
     }
 }
 
+/* A settings packet is checked at the script's reading, or where a member is just fresh or just not. */
+static void check_packet(struct script *script, struct sides *sides, struct clocks now)
+{
+    uint8_t form = byte(script);
+    const struct row *row = form & 16 ? row_said(script, &sides->rows) : NULL;
+    struct check check = {.now = row ? limit_of(script, row, sides->rows.rate) : now};
+
+    read_check(script, &sides->rows, form, &check);
+    check_both(sides, &check);
+}
+
 static void call_choose(struct script *script, struct sides *sides, uint8_t said, struct clocks now)
 {
     switch (said % 12) {
@@ -1142,7 +1165,10 @@ static void call_choose(struct script *script, struct sides *sides, uint8_t said
         choose_both(sides, now);
         break;
     case 8: /* at another reading, which does not move the clocks */
-        choose_both(sides, move(script, now, sides->rows.rate));
+        if (said & 16)
+            check_packet(script, sides, now);
+        else
+            choose_both(sides, move(script, now, sides->rows.rate));
         break;
     default: /* 9 */
         choose_at_limit(script, sides, said);

@@ -28,6 +28,8 @@ typedef __int128 whole;
 
 #define SECOND ((uint64_t)1 << 32)
 
+#define SLACK_LIMIT (30 * 65536)
+
 static bool far(uint64_t received, struct clocks now)
 {
     uint64_t age = now.n - received;
@@ -88,14 +90,17 @@ static uint64_t expanded(const struct told *report)
     return (uint64_t)presentation(report);
 }
 
-static whole lateness(const struct plain_register *rows, const struct told *report, bool by_arrival,
-                      struct clocks now)
+static whole lateness_of(uint32_t rate, whole later, uint64_t received, uint32_t rtp, struct clocks now)
 {
-    uint64_t ntp_age = now.n - report->received;
-    uint32_t rtp_age = now.r - report->rtp;
-    whole later = by_arrival ? 0 : delay(report);
+    uint64_t ntp_age = now.n - received;
+    uint32_t rtp_age = now.r - rtp;
 
-    return (whole)rows->rate * (later - (whole)ntp_age) + (whole)rtp_age * (whole)SECOND;
+    return (whole)rate * (later - (whole)ntp_age) + (whole)rtp_age * (whole)SECOND;
+}
+
+static whole lateness(const struct plain_register *rows, const struct told *report, bool by_arrival, struct clocks now)
+{
+    return lateness_of(rows->rate, by_arrival ? 0 : delay(report), report->received, report->rtp, now);
 }
 
 static bool equal(const struct from *one, const struct from *other)
@@ -343,4 +348,83 @@ struct choice register_choose(const struct plain_register *rows, struct clocks n
     if (chosen)
         set_target(&choice, chosen);
     return choice;
+}
+
+/* The lateness of the latest counted row. There is one. */
+static whole greatest_lateness(const struct plain_register *rows, struct clocks now)
+{
+    struct choice choice = register_choose(rows, now);
+    size_t place = 0;
+
+    while (!choice.latest[place])
+        place++;
+    return lateness(rows, &rows->rows[place].report, choice.by_arrival, now);
+}
+
+static unsigned answer_packet(const struct plain_register *rows, const struct packet *packet, struct clocks now,
+                              uint32_t slack)
+{
+    uint64_t later = packet->presented - packet->received;
+
+    if (slack > SLACK_LIMIT)
+        return 11;
+    if (register_choose(rows, now).counted == 0)
+        return 20;
+    if (packet->group != rows->group || packet->media != rows->media)
+        return 13;
+    if (far(packet->received, now))
+        return 15;
+    if (aged(packet->rtp, now, rows->rate))
+        return 16;
+    if (later > 30 * SECOND || packet->presented == 0 || later == 0)
+        return 17;
+    return 0;
+}
+
+/* By how much the packet is later than the latest row, beside what is allowed and the least step of presented. */
+static enum lateness_case lateness_case_of(whole excess, whole allowed, uint32_t rate)
+{
+    if (excess < 0)
+        return excess + rate < 0 ? FAR_EARLY : JUST_EARLY;
+    if (excess == 0)
+        return AS_LATE;
+    if (excess < allowed)
+        return WITHIN_SLACK;
+    if (excess == allowed)
+        return ALL_OF_SLACK;
+    return excess > allowed + rate ? FAR_OVER_SLACK : JUST_OVER_SLACK;
+}
+
+struct verdict register_check(const struct plain_register *rows, const struct packet *packet, struct clocks now,
+                              uint32_t slack)
+{
+    struct verdict verdict = {.number = answer_packet(rows, packet, now, slack)};
+
+    if (verdict.number == 0) {
+        struct choice choice = register_choose(rows, now);
+        whole later = (whole)(packet->presented - packet->received);
+        whole late = lateness_of(rows->rate, later, packet->received, packet->rtp, now);
+        whole excess = late - greatest_lateness(rows, now);
+        whole allowed = (whole)rows->rate * slack * 65536;
+
+        verdict.suits = excess >= 0 && excess <= allowed;
+        verdict.late = lateness_case_of(excess, allowed, rows->rate);
+        verdict.counted = choice.counted;
+        verdict.by_arrival = choice.by_arrival;
+    }
+    return verdict;
+}
+
+uint64_t register_presented_for(const struct plain_register *rows, uint32_t rtp, struct clocks now)
+{
+    uint32_t rtp_age = now.r - rtp;
+
+    if (register_choose(rows, now).counted == 0)
+        return now.n;
+
+    whole rest = greatest_lateness(rows, now) - (whole)rtp_age * (whole)SECOND;
+    whole units = rest / rows->rate;
+    if (units * rows->rate < rest)
+        units++;
+    return now.n + (uint64_t)units;
 }

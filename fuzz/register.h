@@ -1,7 +1,8 @@
 /*
- * The plain register and choosing, written from document 01 and E3, E4, E5 and E6 of
- * document 02 alone. It is fed the calls' arguments and nothing from the table that
- * it is compared with. A tally is counted in the list of calls, where it is asked for.
+ * The plain register, choosing and the check of another maker's settings, written from
+ * document 01 and E3, E4, E5, E6 and E9 of document 02 alone. It is fed the calls'
+ * arguments and nothing from the table that it is compared with. A tally is counted in
+ * the list of calls, where it is asked for.
  */
 #ifndef FUZZ_REGISTER_H
 #define FUZZ_REGISTER_H
@@ -85,6 +86,29 @@ struct choice {
     int same_slot;
 };
 
+/* A settings packet. The sender is said only to be told. */
+struct packet {
+    uint32_t sender;
+    uint32_t media;
+    uint32_t group;
+    uint64_t received;
+    uint32_t rtp;
+    uint64_t presented;
+};
+
+/* How late a packet is that is not refused: beside the latest member and the slack. */
+enum lateness_case { FAR_EARLY, JUST_EARLY, AS_LATE, WITHIN_SLACK, ALL_OF_SLACK, JUST_OVER_SLACK, FAR_OVER_SLACK };
+
+/* The refusal's number, or 0 and whether the packet suits. */
+struct verdict {
+    unsigned number;
+    bool suits;
+    /* Not of the answer, but of how it came: to count what was met. */
+    enum lateness_case late;
+    uint32_t counted;
+    bool by_arrival;
+};
+
 /* Each answers the refusal's number, or 0. */
 unsigned register_open(struct plain_register *rows, uint32_t group, uint32_t media, uint32_t rate);
 unsigned register_report(struct plain_register *rows, const struct row *row, struct clocks now);
@@ -98,6 +122,16 @@ void register_sweep(struct plain_register *rows, struct clocks now);
 unsigned register_burst(size_t reports, size_t numbers);
 
 struct choice register_choose(const struct plain_register *rows, struct clocks now);
+
+/* Slack is in units of 2^-16 s. */
+struct verdict register_check(const struct plain_register *rows, const struct packet *packet, struct clocks now,
+                              uint32_t slack);
+
+/*
+ * The first presented time at which a packet of this RTP time is as late as the latest counted row, or later; modulo
+ * 2^64. It is N where no row is fresh.
+ */
+uint64_t register_presented_for(const struct plain_register *rows, uint32_t rtp, struct clocks now);
 
 /* Whether a report, where P is 1, says presented in the slot of 2^-16 s in which it was received: the step is 0. */
 int register_same_slot(const struct told *report);

@@ -1,5 +1,6 @@
 /*
- * What test_table.c, test_tallies.c and test_order.c share of whole datagrams.
+ * What test_table.c, test_tallies.c, test_order.c and test_settings.c share of whole datagrams. What
+ * not all of them use is inline.
  */
 #ifndef DATAGRAMS_H
 #define DATAGRAMS_H
@@ -10,7 +11,7 @@
 #define RR_BYTES 8
 static const uint8_t rr[RR_BYTES] = {0x80, 201, 0, 1, 0, 0, 0, 1};
 
-static void put_report(uint8_t *packet, record_t record)
+static inline void put_report(uint8_t *packet, record_t record)
 {
     uint64_t written = 0;
 

@@ -1,6 +1,6 @@
 /*
- * What test_table.c and test_burst.c share: words of places held, and tables, records and readings of
- * random bytes.
+ * What test_table.c, test_burst.c and test_settings.c share: words of places held, and tables,
+ * records and readings of random bytes. What not all of them use is inline.
  */
 #ifndef RANDOM_TABLES_H
 #define RANDOM_TABLES_H
@@ -14,7 +14,7 @@ static uint64_t with_place(uint64_t word, size_t place)
 }
 
 /* The lowest free place, or PRUNEPOCKET_PLACES where none is free. */
-static size_t lowest_free(uint64_t word)
+static inline size_t lowest_free(uint64_t word)
 {
     size_t place = 0;
 
@@ -62,7 +62,7 @@ static table_t random_table(int few)
 }
 
 /* A random record, or one of the table's own that comes closer to being accepted. */
-static record_t random_record(const table_t *table, int few)
+static inline record_t random_record(const table_t *table, int few)
 {
     record_t record;
 
@@ -86,7 +86,7 @@ static record_t random_record(const table_t *table, int few)
 }
 
 /* A random reading, or one that is near a record's times. */
-static reading_t random_reading(const record_t *record, int few)
+static inline reading_t random_reading(const record_t *record, int few)
 {
     reading_t reading;
 

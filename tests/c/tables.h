@@ -1,7 +1,7 @@
 /*
- * What test_table.c, test_tallies.c, test_burst.c and test_order.c share: the reports of the cases,
- * each call with what is checked of its answer, and tables to start from. What not all of them use
- * is inline.
+ * What test_table.c, test_tallies.c, test_burst.c, test_order.c and test_settings.c share: the
+ * reports of the cases, each call with what is checked of its answer, and tables to start from. What
+ * not all of them use is inline.
  */
 #ifndef TABLES_H
 #define TABLES_H
@@ -204,12 +204,12 @@ static void check_tallied(table_t table, size_t place, record_t record, uint32_t
 }
 
 /* No twin was met. */
-static void check_member(table_t table, size_t place, record_t record)
+static inline void check_member(table_t table, size_t place, record_t record)
 {
     check_tallied(table, place, record, 0);
 }
 
-static void check_vacant(table_t table, size_t place)
+static inline void check_vacant(table_t table, size_t place)
 {
     check_at(&table, place, NULL);
 }
@@ -253,7 +253,7 @@ static table_t full_table(void)
 }
 
 /* The full table after the farewells of all whose places the word does not hold. */
-static table_t left_by_farewells(table_t table, uint64_t word)
+static inline table_t left_by_farewells(table_t table, uint64_t word)
 {
     for (uint32_t i = 0; i < PRUNEPOCKET_PLACES; i++) {
         if (!is_held(word, i))

@@ -1,10 +1,10 @@
 /*
- * Calls every function of the member table in prunepocket.h but the burst, which test_burst.c does.
- * Holds each struct of C to the bytes that the archive writes, answers to what documents 01 and 02
- * (E3, E4) say at the limits, and each table after a refusal to the one before, but for the holder's
- * tally after 14, field by field, padding aside. The table's own fields are looked at here, in
- * test_tallies.c, test_burst.c and test_order.c: a host does not. The papers' cases are in
- * test_scenes.c.
+ * Calls every function of the member table in prunepocket.h but the burst, which test_burst.c does,
+ * and the check of settings, which test_settings.c does. Holds each struct of C to the bytes that
+ * the archive writes, answers to what documents 01 and 02 (E3, E4) say at the limits, and each table
+ * after a refusal to the one before, but for the holder's tally after 14, field by field, padding
+ * aside. The table's own fields are looked at here, in test_tallies.c, test_burst.c, test_order.c and
+ * test_settings.c: a host does not. The papers' cases are in test_scenes.c.
  */
 #include "datagrams.h"
 #include "lateness.h"
