@@ -4,6 +4,7 @@
 //! bytes), whether reduced size was agreed where that matters, an index where
 //! one item is asked for, and the expected lines.
 
+use crate::archive;
 use crate::decoder::decode;
 use crate::items::{Refusal, ROW};
 
@@ -133,16 +134,7 @@ fn all_lines(datagram: &[u8], reduced_size: bool) -> Result<Vec<String>, Refusal
 }
 
 fn line_at(datagram: &[u8], reduced_size: bool, index: u64) -> Result<String, Refusal> {
-    let mut row = [0; ROW];
-    prunepocket_sys::item_field(datagram, reduced_size, index, 0, &mut row[0])?;
-    let fields = match row[0] {
-        1 => 10,
-        2 => 8,
-        _ => 3,
-    };
-    for (field, value) in row[..fields].iter_mut().enumerate() {
-        prunepocket_sys::item_field(datagram, reduced_size, index, field as u64, value)?;
-    }
+    let row = archive::item_at(datagram, reduced_size, index)?;
     Ok(row_line(&row))
 }
 

@@ -6,7 +6,7 @@ use crate::compare::{same, Verdict};
 use crate::compare_table::fewest;
 use crate::generator::Rng;
 use crate::histories::{History, Step};
-use crate::items::ROW;
+use crate::items::{settings_of_row, ROW};
 use crate::members::{Opening, Record};
 use crate::places::PLACES;
 use crate::settings_check::{Query, SettingsCheck, Suits};
@@ -257,19 +257,6 @@ fn through_writer(settings: &Settings) -> Result<Option<Settings>, String> {
         &[1, 2, 8],
     )?;
     Ok(Some(settings_of_row(&rows)))
-}
-
-/// The columns of include/prunepocket.h.
-fn settings_of_row(row: &[u64; ROW]) -> Settings {
-    let word = |column: usize| u32::try_from(row[column]).expect("a field of 32 bits");
-    Settings {
-        sender: word(2),
-        media: word(4),
-        group: word(3),
-        received: row[5],
-        rtp: word(6),
-        presented: row[7],
-    }
 }
 
 /// The reading's own sample, and any others before and after it.

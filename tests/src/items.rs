@@ -114,6 +114,19 @@ impl Settings {
     }
 }
 
+/// A row of kind 2, as the check of settings is given it.
+pub fn settings_of_row(row: &[u64; ROW]) -> prunepocket_sys::Settings {
+    let word = |column: usize| u32::try_from(row[column]).expect("a field of 32 bits");
+    prunepocket_sys::Settings {
+        sender: word(2),
+        media: word(4),
+        group: word(3),
+        received: row[5],
+        rtp: word(6),
+        presented: row[7],
+    }
+}
+
 impl fmt::Display for PlacedItem {
     fn fmt(&self, f: &mut fmt::Formatter<'_>) -> fmt::Result {
         let place = self.place;

@@ -42,8 +42,6 @@ pub mod recordings;
 pub mod register;
 pub mod rejoins;
 pub mod replay;
-pub mod scene_bindings;
-pub mod scene_settings;
 pub mod scenes;
 pub mod settings_check;
 pub mod settings_counts;

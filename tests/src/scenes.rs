@@ -5,13 +5,14 @@ use crate::burst_steps::{check_kept, BurstSteps};
 use crate::cases::parse_bytes;
 use crate::compare::{same, Verdict, BEFORE};
 use crate::encoder::Message;
+use crate::items::{settings_of_row, ROW};
 use crate::members::{Call, Choice, Opening, Origin, Reading, Record, ReportFields, Target};
 use crate::places::PLACES;
-use crate::scene_bindings::Settings;
-use crate::scene_settings::{Asked, SettingsSide, Suits};
+use crate::settings_check::{Query, Suits};
 use crate::sides::Side;
 use crate::target::AtReading;
-use prunepocket_sys::{RecordingAnswered, Refusal, SettingsMessage, ENTRY_LIMIT, ENTRY_ROW};
+use prunepocket_sys::{RecordingAnswered, Refusal, Settings, SettingsMessage};
+use prunepocket_sys::{ENTRY_LIMIT, ENTRY_ROW};
 
 const OPENING: Opening = Opening {
     group: 42,
@@ -40,7 +41,7 @@ pub struct Ran {
 }
 
 /// What was run, or the first line that was not understood or got another answer.
-pub fn run<S: SettingsSide>(text: &str) -> Result<Ran, String> {
+pub fn run<S: Side>(text: &str) -> Result<Ran, String> {
     let mut bench = Bench::<S>::new()?;
     let mut steps = 0;
     for (index, line) in text.lines().enumerate() {
@@ -82,7 +83,7 @@ struct Bench<S> {
     answers: usize,
 }
 
-impl<S: SettingsSide> Bench<S> {
+impl<S: Side> Bench<S> {
     fn new() -> Result<Self, String> {
         let side = S::open(&OPENING).map_err(|number| format!("opening: {number}"))?;
         Ok(Bench {
@@ -253,18 +254,17 @@ impl<S: SettingsSide> Bench<S> {
     fn check(&mut self, asked: &[&str]) -> Result<Suits, String> {
         let (settings, slack) = match asked {
             ["own", slack] => (self.own_settings()?, slack),
-            ["item", index, slack] => (self.settings_at(number(index)?)?, slack),
+            ["item", index, slack] => (read_settings(self.item_at(number(index)?))?, slack),
             [fields @ .., slack] => (settings(fields)?, slack),
             _ => return Err(String::from("not a step")),
         };
-        let asked = Asked {
-            opening: self.opening,
+        let query = Query {
             settings,
             reading: self.reading,
             slack: number(slack)?,
         };
         self.before = self.side.clone();
-        let suits = self.side.suits(&asked);
+        let suits = self.side.check_settings(&query);
         self.unchanged(None)?;
         Ok(suits)
     }
@@ -275,11 +275,7 @@ impl<S: SettingsSide> Bench<S> {
         let target = self.side.choose(&self.reading).unwrap_or_default();
         let message = S::write(&settings_message(SENDER, &target));
         let message = message.map_err(|number| format!("not written: {number}"))?;
-        S::settings_at(&behind_rr(SENDER, &message), false, 0)
-    }
-
-    fn settings_at(&self, index: u64) -> Result<Settings, String> {
-        S::settings_at(&self.datagram, self.reduced_size, index)
+        read_settings(S::item_at(&behind_rr(SENDER, &message), false, 0))
     }
 
     /// The answer to a question, which changes nothing but the target that steps
@@ -290,7 +286,10 @@ impl<S: SettingsSide> Bench<S> {
                 let items = S::count_items(&self.datagram, self.reduced_size);
                 is(items, count(due)?)
             }
-            (["item", index], due) => is(self.item_at(number(index)?), item(due)?),
+            (["item", index], due) => {
+                let row = self.item_at(number(index)?);
+                is(row.map(|row| (row[0], row[2])), item(due)?)
+            }
             (["choose"], due) => is(self.choose()?, self.choice(due)?),
             (["write", "report"], words) => {
                 let report = self.last_report.ok_or("there is no report")?;
@@ -360,7 +359,7 @@ impl<S: SettingsSide> Bench<S> {
         }
     }
 
-    fn item_at(&self, index: u64) -> Result<(u64, u64), Refusal> {
+    fn item_at(&self, index: u64) -> Result<[u64; ROW], Refusal> {
         S::item_at(&self.datagram, self.reduced_size, index)
     }
 
@@ -735,6 +734,14 @@ fn presented_target(words: &[&str]) -> Result<Option<(u32, u64)>, String> {
         ["none"] => Ok(None),
         [source, presented] => Ok(Some((number(source)?, presented_time(presented)?))),
         _ => Err(format!("not an answer: {words:?}")),
+    }
+}
+
+/// The settings packet that an item is.
+fn read_settings(item: Result<[u64; ROW], Refusal>) -> Result<Settings, String> {
+    match item {
+        Ok(row @ [2, ..]) => Ok(settings_of_row(&row)),
+        item => Err(format!("no settings: {item:?}")),
     }
 }
 

@@ -6,13 +6,14 @@ use crate::arrivals::Arrival;
 use crate::decoder::decode;
 use crate::encoder::Message;
 use crate::intake::{Answer, Intake};
+use crate::items::ROW;
 use crate::members::{Call, Choice, Member, Opening, Origin, Reading, Record};
 use crate::places::Places;
 use crate::replay::replay;
 use crate::settings_check::{Query, Suits};
 use crate::sync_group::{self, LONGEST_LINE};
 use crate::table_values::with_tally;
-use prunepocket_sys::{count_items, item_field, RecordingAnswered, Refusal, Table};
+use prunepocket_sys::{count_items, RecordingAnswered, Refusal, Table};
 use prunepocket_sys::{read_sync_group, write_sync_group};
 use std::array::from_fn;
 
@@ -34,8 +35,9 @@ pub trait Side: Clone {
         reading: &Reading,
     ) -> Result<Vec<u64>, Refusal>;
     fn choose(&self, reading: &Reading) -> Choice;
-    /// Whether a settings packet suits the members.
-    fn check_settings(&self, query: &Query) -> Suits;
+    /// Whether a settings packet suits the members. The table that is handed back is
+    /// the side's from then on.
+    fn check_settings(&mut self, query: &Query) -> Suits;
     fn count_members(&self) -> u64;
     fn member_at(&self, place: usize) -> Option<Member>;
     /// The member at each place.
@@ -45,8 +47,8 @@ pub trait Side: Clone {
     /// Writes the tally of the member with this number.
     fn set_tally(&mut self, source: u32, tally: u32);
     fn count_items(datagram: &[u8], reduced_size: bool) -> Result<u64, Refusal>;
-    /// The kind and the source of the item at an index.
-    fn item_at(datagram: &[u8], reduced_size: bool, index: u64) -> Result<(u64, u64), Refusal>;
+    /// The row of the item at an index.
+    fn item_at(datagram: &[u8], reduced_size: bool, index: u64) -> Result<[u64; ROW], Refusal>;
     fn write(message: &Message) -> Result<Vec<u8>, u64>;
     /// The group number of a site file's line.
     fn read_line(line: &[u8]) -> Result<u32, Refusal>;
@@ -107,9 +109,14 @@ impl Side for Table {
         Table::choose(self, reading).choice()
     }
 
-    fn check_settings(&self, query: &Query) -> Suits {
+    fn check_settings(&mut self, query: &Query) -> Suits {
         let (settings, reading) = (&query.settings, &query.reading);
-        Table::check_settings(self, settings, reading, query.slack).verdict()
+        let answered = Table::check_settings(self, settings, reading, query.slack);
+        *self = answered.table;
+        let verdict = answered.verdict();
+        // 1 for yes and 0 for no; beside a refusal it is 0, too.
+        assert_eq!(answered.suits, u32::from(verdict == Ok(true)), "{query:?}");
+        verdict
     }
 
     fn count_members(&self) -> u64 {
@@ -130,11 +137,8 @@ impl Side for Table {
         count_items(datagram, reduced_size, &mut count).map(|()| count)
     }
 
-    fn item_at(datagram: &[u8], reduced_size: bool, index: u64) -> Result<(u64, u64), Refusal> {
-        let (mut kind, mut source) = (0, 0);
-        item_field(datagram, reduced_size, index, 0, &mut kind)?;
-        item_field(datagram, reduced_size, index, 2, &mut source)?;
-        Ok((kind, source))
+    fn item_at(datagram: &[u8], reduced_size: bool, index: u64) -> Result<[u64; ROW], Refusal> {
+        archive::item_at(datagram, reduced_size, index)
     }
 
     fn write(message: &Message) -> Result<Vec<u8>, u64> {
@@ -197,7 +201,7 @@ impl Side for Intake {
         Intake::choose(self, reading)
     }
 
-    fn check_settings(&self, query: &Query) -> Suits {
+    fn check_settings(&mut self, query: &Query) -> Suits {
         Intake::check_settings(self, query)
     }
 
@@ -221,12 +225,11 @@ impl Side for Intake {
         decode(datagram, reduced_size).map(|items| items.len() as u64)
     }
 
-    fn item_at(datagram: &[u8], reduced_size: bool, index: u64) -> Result<(u64, u64), Refusal> {
+    fn item_at(datagram: &[u8], reduced_size: bool, index: u64) -> Result<[u64; ROW], Refusal> {
         let items = decode(datagram, reduced_size)?;
         // Refusal 9: the index is not below the item count; place 0.
         let item = items.get(index as usize).ok_or(Refusal::new(9, 0))?;
-        let row = item.row();
-        Ok((row[0], row[2]))
+        Ok(item.row())
     }
 
     fn write(message: &Message) -> Result<Vec<u8>, u64> {
