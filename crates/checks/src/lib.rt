@@ -1,29 +1,24 @@
 // The checks of the member table on plain values: 12 of an opening, 13 to 18 of a report in their order, and those of a
 // settings packet in theirs. Whether 14, 18 and 20 apply is told, since that is seen in the table.
-use idms::Settings;
+mod settings;
+
 use refusals::BADLY_PRESENTED;
 use refusals::NO_ROOM;
-use refusals::NONE_COUNTED;
 use refusals::OTHER_ORIGIN;
 use refusals::OTHER_STREAM;
-use refusals::OUT_OF_RANGE;
 use refusals::RECEIVED_FAR;
 use refusals::RTP_AGED;
 use register::Reading;
 use register::Record;
+pub use settings::settings_number;
 use times::is_aged;
 use times::is_badly_presented;
 use times::is_far;
-use times::settings_are_badly_presented;
 ghost use mathlib.Core.Path.{_≡_};
 ghost use mathlib.Core.Bool.{not, _&&_};
 ghost use lib.Dec.{eqb};
 ghost use Rattle.times.specs.Times.{isBadlyPresented};
 ghost use Rattle.register.specs.Register.{isRefusedOpening, reportChecks};
-ghost use Rattle.register.specs.SettingsCheck.{settingsChecks};
-
-// The greatest slack of a check of settings, in units of 2^-16 s: 30 s.
-pub const SLACK_LIMIT: u32 = 1966080;
 
 // Whether 12 is given, whatever the media source.
 pub fn is_refused_opening(group: u32, rate: u32) -> bool
@@ -85,42 +80,6 @@ pub fn report_number(
     }
     if full {
         return NO_ROOM;
-    }
-    0
-}
-
-// The first check that applies to a settings packet, or 0. `none` says whether no member is counted.
-pub fn settings_number(
-    group: u32,
-    media: u32,
-    rate: u32,
-    s: Settings,
-    at: Reading,
-    slack: u32,
-    none: bool,
-) -> u64
-    ensures { λ r. ⌜ r ≡ settingsChecks (record { group = group; media = media; rate = rate }) s at slack none ⌝ }
-{
-    if SLACK_LIMIT < slack {
-        return OUT_OF_RANGE;
-    }
-    if none {
-        return NONE_COUNTED;
-    }
-    if s.group != group {
-        return OTHER_STREAM;
-    }
-    if s.media != media {
-        return OTHER_STREAM;
-    }
-    if is_far(at.ntp, s.received) {
-        return RECEIVED_FAR;
-    }
-    if is_aged(rate, at.rtp, s.rtp) {
-        return RTP_AGED;
-    }
-    if settings_are_badly_presented(s.received, s.presented) {
-        return BADLY_PRESENTED;
     }
     0
 }

@@ -13,7 +13,7 @@ use native.Mathlib.Omega.{arith}
 use borrow.Author.Tests.{not-true, eqb-true, ltb-false, eq-eqb, ne-eqb}
 use Rattle.refusals.specs.Refusals.{outOfRange, noneCounted, otherStream, receivedFar, rtpAged, badlyPresented}
 use Rattle.idms.specs.declared.Settings.{Settings}
-use Rattle.times.specs.Times.{ntpAge, expanded, delay, settingsDelay, isFar, isAged, isBadlyPresented}
+use Rattle.times.specs.Times.{ntpAge, rtpAge, expanded, delay, settingsDelay, isFar, isAged, isBadlyPresented}
 use Rattle.times.specs.Times.{settingsAreBadlyPresented}
 use Rattle.times.proofs.Laws.{delay-positive}
 use Rattle.register.specs.declared.Record.{Record}
@@ -22,7 +22,7 @@ use Rattle.register.specs.declared.Target.{Target}
 use Rattle.register.specs.declared.Choice.{Choice}
 use Rattle.register.specs.declared.Verdict.{Verdict}
 use Rattle.register.specs.Register.{Opening, Rows, any, presents, isOtherStream}
-use Rattle.register.specs.Choosing.{isArrival, counted, latenessOf, targetOf, choice}
+use Rattle.register.specs.Choosing.{lateness, isArrival, counted, delayOf, latenessOf, targetOf, choice}
 use Rattle.register.specs.Letter.{NoneOf, MeansBehind, Means}
 use Rattle.register.specs.SettingsCheck.{slackLimit, settingsChecks, isNoneCounted, settingsLateness, allowance}
 use Rattle.register.specs.SettingsCheck.{suits, verdictBy, verdict, targetSettings}
@@ -446,16 +446,23 @@ module _ (o : Opening) (at : Reading) (rows : Rows) (sender : ℕ) (row : Record
 
         fair : settingsAreBadlyPresented received full ≡ false
         fair =
-            let wait : eqb (delay received (row .report .presented)) 0 ≡ false =
+            let some-wait : eqb (delay received (row .report .presented)) 0 ≡ false =
             ne-eqb (delay received (row .report .presented)) 0
             (λ z. omega (arith, z, delay-positive received (row .report .presented))) in
-            rw (own-delay, parts .0, parts .1, wait) refl
+            rw (own-delay, parts .0, parts .1, some-wait) refl
 
         some : counted o at rows ≡ [] → ⊥
         some none = List·Memᴰ·not-nil (subst (List·Memᴰ row) none member)
 
+        wait : settingsDelay received (cond (presents row) full 0) ≡ delayOf row
+        wait = rw is own-delay
+
         late : settingsLateness o at (rowSettings sender row) ≡ latenessOf o at row
-        late = rw (is, own-delay) refl
+        late =
+            ap
+            (λ (n : ℕ).
+            lateness (o .rate) n (ntpAge (at .ntp) received) (rtpAge (at .rtp) (row .report .rtp)))
+            wait
 
         none-more : latenessOf o at row ≤ℤ (latenessOf o at row +ℤ pos (o .rate * 0 * 2 ^ 16))
         none-more =

@@ -4,8 +4,8 @@ use native.Mathlib.Omega.{arith}
 use borrow.Author.Needs.{needs}
 use borrow.Author.Tests.{eq-eqb, ne-eqb, lt-ltb, le-ltb}
 use Rattle.register.specs.SettingsCheck.{slackLimit, settingsChecks}
-use Rattle.checks.proofs.settings_number.Statement.{statement}
-use Rattle.checks.proofs.settings_number.Tie as tie
+use Rattle.checks.proofs.settings.settings_number.Statement.{statement}
+use Rattle.checks.proofs.settings.settings_number.Tie as tie
 
 returns : tie.Need-returns
 unfolding settingsChecks
