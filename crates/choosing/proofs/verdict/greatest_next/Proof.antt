@@ -18,7 +18,7 @@ member-lateness-requires c κs = search needs
 is-as-late-requires : tie.Need-is-as-late-requires
 is-as-late-requires c κs =
     let part : _ = ap (λ (x : Late). x .part) (c .member-lateness .ensures) in
-    (c .before .before .pre, omega (arith, part))
+    (omega (arith, part, c .before .before .pre), omega (arith, part, c .before .before .pre))
 
 returns-2 : tie.Need-returns-2
 returns-2 c =

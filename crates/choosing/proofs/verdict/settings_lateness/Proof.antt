@@ -1,4 +1,5 @@
 -- The lateness of the packet's own delay and ages.
+use native.Mathlib.Omega.{arith}
 use borrow.Author.Needs.{needs}
 use Rattle.choosing.proofs.verdict.settings_lateness.Statement.{statement}
 use Rattle.choosing.proofs.verdict.settings_lateness.Tie as tie
@@ -14,7 +15,7 @@ rtp-age-requires c κs = search needs
 
 late-by-requires : tie.Need-late-by-requires
 late-by-requires c κs =
-    rw (← c .before .before .settings-delay .ensures) at (c .before .before .before .pre)
+    omega (arith, c .before .before .settings-delay .ensures, c .before .before .before .pre)
 
 returns : tie.Need-returns
 returns c =
