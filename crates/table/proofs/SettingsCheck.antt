@@ -1,7 +1,6 @@
 -- A settings packet on a table (document 02, E9): the table's rows are the register's in some order, which the verdict
 -- does not look at, so that what is proved of the register's verdict holds of the table's.
 use Prim.Native.Nat.{ℕ}
-use mathlib.Core.List.{List}
 use mathlib.Core.Path.{_≡_, sym, ap, _∙_}
 use Rattle.idms.specs.declared.Settings.{Settings}
 use Rattle.register.specs.declared.Reading.{Reading}

@@ -1,5 +1,4 @@
 -- Check 17 of a settings packet: its three parts in order.
-use Prim.Native.Nat.{ℕ}
 use mathlib.Core.Path.{refl, sym}
 use native.Mathlib.Omega.{arith}
 use borrow.Author.Needs.{needs}

@@ -1,6 +1,5 @@
 -- Each return by the tests that led there, in the order of the checks.
 use mathlib.Core.Path.{refl, sym, _∙_}
-use native.Mathlib.Omega.{arith}
 use borrow.Author.Needs.{needs}
 use borrow.Author.Tests.{eq-eqb, ne-eqb, lt-ltb, le-ltb}
 use Rattle.register.specs.SettingsCheck.{slackLimit, settingsChecks}

@@ -1,6 +1,5 @@
 -- The product has 64 bits, of which the upper 48 are the whole.
 use Prim.Native.Nat.{_-_, _^_, _≤_}
-use mathlib.Core.Path.{refl}
 use native.Mathlib.Nat.{mul-le-mul}
 use native.Mathlib.Omega.{arith}
 use borrow.Author.Needs.{needs}
