@@ -1,4 +1,6 @@
 // A burst of reports at once: what is checked before any of them is tried.
+#![tactic(auto)]
+
 ghost use Rattle.std.specs.Prelude.{◌≡◌};
 ghost use Rattle.burst.specs.Burst.{burst_checked};
 
@@ -8,7 +10,7 @@ use refusals::{LONG_BURST, SHORT_ANSWERS};
 const BURST_LIMIT: usize = 64;
 
 // A burst's own number, 0 where it is taken, and how many of its reports are tried: all, or none.
-#[derive(Drop)]
+#[derive(Clone, Copy)]
 pub struct Checked {
     pub number: u64,
     pub tried: usize,

@@ -1,5 +1,7 @@
 // The checks of the member table on plain values: 12 of an opening, 13 to 18 of a report in their order, and those of a
 // settings packet in theirs. Whether 14, 18 and 20 apply is told, since that is seen in the table.
+#![tactic(auto)]
+
 mod settings;
 
 ghost use Rattle.std.specs.Prelude.{◌≡◌, not, ◌&&◌, eqb};

@@ -1,5 +1,7 @@
 // Choosing: one pass over the places marks the members that count, another finds the latest. Beside it, whether a
 // settings packet suits those members.
+#![tactic(auto)]
+
 mod verdict;
 
 ghost use Rattle.std.specs.Prelude.{not, cond, ◌&&◌, ◌≡◌, ◌+◌, ◌-◌, ◌*◌, ◌^◌, ◌≤◌, ◌<◌};
@@ -21,21 +23,21 @@ use times::{THIRTY_SECONDS, is_fresh, ntp_age, presentation, presentation_delay,
 pub use verdict::verdict_at;
 
 // The places whose member is fresh, and those of them whose member reports presentation.
-#[derive(Drop)]
+#[derive(Clone, Copy)]
 pub struct Marks {
     pub fresh: u64,
     pub presenting: u64,
 }
 
 // A lateness of at least 0: whole × 2^32 + part.
-#[derive(Drop)]
+#[derive(Clone, Copy)]
 pub(crate) struct Late {
     pub(crate) whole: u64,
     pub(crate) part: u64,
 }
 
 // The latest member so far: its place, 64 for none, with its lateness and its number.
-#[derive(Drop)]
+#[derive(Clone, Copy)]
 struct Candidate {
     place: usize,
     late: Late,

@@ -12,23 +12,23 @@ abbrev pub refusal : ℕ → ℕ → Refusal
 refusal number place = record { number = number; place = place }
 
 -- how many items, where no check refused
-abbrev pub countUnless : Check → ℕ → Count
-countUnless passed items = Count.Items items
-countUnless (refused number place) items = Count.Refused (refusal number place)
+abbrev pub count_unless : Check → ℕ → Count
+count_unless passed items = Count.Items items
+count_unless (refused number place) items = Count.Refused (refusal number place)
 
 -- of the blocks of the XR packet at p, whose content has a length
-abbrev pub blocksCount : List ℕ → ℕ → ℕ → Count
-blocksCount d p content =
-    countUnless (blocks_check d (p + content) (p + 8)) (length (blocks_items d (be32 d (p + 4)) (p + content) (p + 8)))
+abbrev pub blocks_count : List ℕ → ℕ → ℕ → Count
+blocks_count d p content =
+    count_unless (blocks_check d (p + content) (p + 8)) (length (blocks_items d (be32 d (p + 4)) (p + content) (p + 8)))
 
 -- of the packet at p, which is readable
-abbrev pub partsCount : List ℕ → ℕ → Count
-partsCount d p = countUnless (parts_check d (contents d p)) (length (packet_items d p))
+abbrev pub parts_count : List ℕ → ℕ → Count
+parts_count d p = count_unless (parts_check d (contents d p)) (length (packet_items d p))
 
 -- of the packets from p on
-abbrev pub packetsCount : Bool → List ℕ → ℕ → Count
-packetsCount reduced d p = countUnless (packets_check reduced d p) (length (packets_items d p))
+abbrev pub packets_count : Bool → List ℕ → ℕ → Count
+packets_count reduced d p = count_unless (packets_check reduced d p) (length (packets_items d p))
 
 -- how many items a datagram has, or its refusal
-unfoldable pub itemCount : Bool → List ℕ → Count
-itemCount reduced d = countUnless (datagram_check reduced d) (length (datagram_items d))
+unfoldable pub item_count : Bool → List ℕ → Count
+item_count reduced d = count_unless (datagram_check reduced d) (length (datagram_items d))

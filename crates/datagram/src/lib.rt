@@ -1,10 +1,12 @@
 // A whole RTCP datagram: its packets walked from the front, each checked, and the items counted. A datagram that
 // breaks a rule is refused and has no count.
+#![tactic(auto)]
+
 ghost use Rattle.std.specs.Prelude.{◌≡◌, true, ◌+◌, ◌≤◌, length};
 ghost use Rattle.packet.specs.Contents.{readable};
 ghost use Rattle.packet.specs.Answers.{head_of};
 ghost use Rattle.datagram.specs.Datagram.{length_is_bad};
-ghost use Rattle.datagram.specs.Answers.{blocksCount, partsCount, packetsCount, itemCount};
+ghost use Rattle.datagram.specs.Answers.{blocks_count, parts_count, packets_count, item_count};
 
 use idms::Refusal;
 use packet::{Head, PacketHead, block_at, head_at};
@@ -12,7 +14,7 @@ use packet_checks::{Block, PacketType};
 use refusals::BAD_LENGTH;
 
 // How many items a datagram has, or its refusal.
-#[derive(Drop)]
+#[derive(Clone, Copy)]
 pub enum Count {
     Items(usize),
     Refused(Refusal),
@@ -21,7 +23,7 @@ pub enum Count {
 // Checks the blocks of the XR packet at p, and counts the items that they give.
 fn count_blocks(d: &[u8], p: usize, content: usize) -> Count
     requires { (8 ≤ content) × (p + content ≤ length d.now) }
-    ensures { result ≡ blocksCount d.now p content }
+    ensures { result ≡ blocks_count d.now p content }
 {
     let stop = p + content;
     let mut at = p + 8;
@@ -46,7 +48,7 @@ fn count_blocks(d: &[u8], p: usize, content: usize) -> Count
 // Counts the items of the packet at p, which is readable, by its type.
 fn count_content(d: &[u8], p: usize, h: Head) -> Count
     requires { (h ≡ head_of d.now p) × (readable d.now p ≡ true) }
-    ensures { result ≡ partsCount d.now p }
+    ensures { result ≡ parts_count d.now p }
 {
     let kind = h.kind;
     match kind {
@@ -61,7 +63,7 @@ fn count_content(d: &[u8], p: usize, h: Head) -> Count
 
 // Checks the packets of a datagram in turn, and counts their items.
 fn count_packets(d: &[u8], reduced: bool) -> Count
-    ensures { result ≡ packetsCount reduced d.now 0 }
+    ensures { result ≡ packets_count reduced d.now 0 }
 {
     let mut p: usize = 0;
     let mut n: usize = 0;
@@ -99,7 +101,7 @@ fn is_bad_length(n: usize) -> bool
 
 // How many items a datagram has, or the refusal that it gets. `reduced` says whether reduced size was agreed.
 pub fn count_items(d: &[u8], reduced: bool) -> Count
-    ensures { result ≡ itemCount reduced d.now }
+    ensures { result ≡ item_count reduced d.now }
 {
     if is_bad_length(d.len()) {
         return Count::Refused(Refusal {

@@ -1,11 +1,13 @@
 // The items of inter-destination media synchronization (RFC 7272), as every other crate sees them: what a report, a
 // settings packet and a farewell hold, and each as a row of numbers.
+#![tactic(auto)]
+
 ghost use Rattle.std.specs.Prelude.{◌≡◌, ◌≤◌};
 ghost use Rattle.idms.specs.Rows.{row_of, columns_of, field_of};
 
 // An IDMS report block (RFC 7272 section 6) with the SSRC of the XR packet's sender. The reader gives `presented` 0
 // where `p` is false; the type does not say so, and the writer refuses any other value there.
-#[derive(Drop)]
+#[derive(Clone, Copy)]
 pub struct Report {
     pub sender: u32,
     pub payload_type: u8,
@@ -19,7 +21,7 @@ pub struct Report {
 
 // An IDMS settings packet (RFC 7272 section 7). `presented` 0 means empty.
 #[repr(C)]
-#[derive(Drop)]
+#[derive(Clone, Copy)]
 pub struct Settings {
     pub sender: u32,
     pub media: u32,
@@ -30,7 +32,7 @@ pub struct Settings {
 }
 
 // A report, a settings packet, or one source of a BYE packet: document 01's farewell.
-#[derive(Drop)]
+#[derive(Clone, Copy)]
 pub enum Item {
     Report(Report),
     Settings(Settings),
@@ -38,28 +40,28 @@ pub enum Item {
 }
 
 // An item and the byte of the datagram at which its block, packet or source starts.
-#[derive(Drop)]
+#[derive(Clone, Copy)]
 pub struct Placed {
     pub place: usize,
     pub item: Item,
 }
 
 // A refusal's number and its byte place: that of a packet for 2 to 5, of a block for 6 and 7, and 0 for the others.
-#[derive(Drop)]
+#[derive(Clone, Copy)]
 pub struct Refusal {
     pub number: u64,
     pub place: usize,
 }
 
 // What reading gives at an index: the item there, or the refusal.
-#[derive(Drop)]
+#[derive(Clone, Copy)]
 pub enum Found {
     Item(Placed),
     Refused(Refusal),
 }
 
 // What a field's number finds.
-#[derive(Drop)]
+#[derive(Clone, Copy)]
 pub enum Field {
     Value(u64),
     // The item has no such field.

@@ -22,8 +22,8 @@ use Rattle.datagram.specs.declared.Count.{Count}
 use Rattle.packet.specs.Checks.{Check, passed, refused}
 use Rattle.datagram.specs.Datagram.{datagram_check, datagram_items}
 use Rattle.rtcp.specs.Cursor.{next_of, given, start}
-use Rattle.datagram.specs.Answers.{refusal, itemCount}
-use Rattle.rtcp.specs.Answers.{cursorOn}
+use Rattle.datagram.specs.Answers.{refusal, item_count}
+use Rattle.rtcp.specs.Answers.{cursor_on}
 use Rattle.rtcp.proofs.Theorems.{cursor-in_turn}
 use Rattle.table.specs.declared.Table.{Table}
 use Rattle.table.specs.declared.Taken.{Taken}
@@ -210,9 +210,9 @@ module _
 -- ---- a datagram: what opening it says of its checks and its items
 
 pub cursor_items :
-    (reduced : Bool) (d : List ℕ) (n : ℕ) (c : Cursor) → cursorOn reduced d ≡ Opened.Items n c
+    (reduced : Bool) (d : List ℕ) (n : ℕ) (c : Cursor) → cursor_on reduced d ≡ Opened.Items n c
     → (datagram_check reduced d ≡ passed) × (given n d c ≡ datagram_items d)
-unfolding cursorOn itemCount
+unfolding cursor_on item_count
 cursor_items reduced d n c e = go (datagram_check reduced d) refl
   where
     go :
@@ -222,7 +222,7 @@ cursor_items reduced d n c e = go (datagram_check reduced d) refl
         let o : Opened.Items (length (datagram_items d)) start ≡ Opened.Items n c = rw k at e in
         let count : length (datagram_items d) ≡ n = cc in
         let first : start ≡ c = cc in
-        let counted : itemCount reduced d ≡ Count.Items (length (datagram_items d)) = rw k refl in
+        let counted : item_count reduced d ≡ Count.Items (length (datagram_items d)) = rw k refl in
         (k, ap (given n d) (sym first) ∙ cursor-in_turn reduced d (length (datagram_items d)) n counted (omega arith))
     go (refused number place) k =
         let o : Opened.Refused (refusal number place) ≡ Opened.Items n c = rw k at e in
@@ -230,9 +230,9 @@ cursor_items reduced d n c e = go (datagram_check reduced d) refl
         absurd (omega arith)
 
 pub cursor-refused :
-    (reduced : Bool) (d : List ℕ) (r : Refusal) → cursorOn reduced d ≡ Opened.Refused r
+    (reduced : Bool) (d : List ℕ) (r : Refusal) → cursor_on reduced d ≡ Opened.Refused r
     → datagram_check reduced d ≡ refused r.number r.place
-unfolding cursorOn
+unfolding cursor_on
 cursor-refused reduced d r e = go (datagram_check reduced d) refl
   where
     go : (k : Check) → datagram_check reduced d ≡ k → datagram_check reduced d ≡ refused r.number r.place
@@ -254,14 +254,14 @@ module _ (t : Table) (reduced : Bool) (d : List ℕ) (origin : Origin) (at : Rea
       (r ≡ datagram_answered t reduced d origin at answers) × (after ≡ answers_after t reduced d origin at answers)
 
   pub answered-refused :
-      (r : Refusal) → cursorOn reduced d ≡ Opened.Refused r
+      (r : Refusal) → cursor_on reduced d ≡ Opened.Refused r
       → Answers (record { number = r.number; place = r.place; count = 0; table = t }) answers
   unfolding datagram_answered answers_after
   answered-refused r e = rw (cursor-refused reduced d r e) (refl, refl)
 
   module _
       (n : ℕ) (c : Cursor) (count : ℕ)
-      (e : cursorOn reduced d ≡ Opened.Items n c) (h : count ≡ call_count (given n d c)) where
+      (e : cursor_on reduced d ≡ Opened.Items n c) (h : count ≡ call_count (given n d c)) where
     -- the calls as they were counted and made, and as the definitions have them
     abbrev calls_given : List Call
     calls_given = calls_in origin at (given n d c)

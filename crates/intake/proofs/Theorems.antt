@@ -29,7 +29,7 @@ use Rattle.refusals.specs.Refusals.{bad_first}
 use Rattle.packet.specs.Checks.{Check, passed, refused}
 use Rattle.packet.proofs.Laws.Checks.{Refuses}
 use Rattle.datagram.specs.Datagram.{datagram_check, datagram_items}
-use Rattle.datagram.specs.Answers.{itemCount}
+use Rattle.datagram.specs.Answers.{item_count}
 use Rattle.packet.proofs.Laws.Bytes.{be64_bound}
 use Rattle.datagram.proofs.Laws.Answers.{datagram-passed}
 use Rattle.datagram.proofs.Theorems.{datagram_not_four, datagram-alike, passes_agreed}
@@ -54,7 +54,7 @@ calls_of_items (x ∷ xs) = omega (arith, calls_of_item_bound x.item, calls_of_i
 
 -- As many numbers as the datagram has items are enough, and so are 512.
 pub enough_numbers :
-    (reduced : Bool) (d : List ℕ) (n : ℕ) (origin : Origin) (at : Reading) → itemCount reduced d ≡ Count.Items n
+    (reduced : Bool) (d : List ℕ) (n : ℕ) (origin : Origin) (at : Reading) → item_count reduced d ≡ Count.Items n
     → (length (calls_in origin at (datagram_items d)) ≤ n) × (n ≤ 512)
 enough_numbers reduced d n origin at e =
     let bound : _ = count_bound reduced d n e in

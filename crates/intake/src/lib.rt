@@ -1,4 +1,6 @@
 // Takes whole datagrams into a member table: every report and every farewell in it is a call, in the order of items.
+#![tactic(auto)]
+
 ghost use Rattle.std.specs.Prelude.{◌≡◌, ◌+◌, ◌≤◌, length};
 ghost use Rattle.std.proofs.lemmas.List.Edits.{sets};
 ghost use Rattle.rtcp.specs.Cursor.{given};
@@ -16,7 +18,7 @@ use table::{Outcome, Table};
 
 // A refusal's number and byte place, or 0 and 0; how many calls there were; and the table afterwards.
 #[repr(C)]
-#[derive(Drop)]
+#[derive(Clone, Copy)]
 pub struct DatagramAnswered {
     pub number: u64,
     pub place: u64,

@@ -1,1 +1,2 @@
 // Laws of ℤ for the proofs of other crates: no function, and no definition.
+#![tactic(auto)]

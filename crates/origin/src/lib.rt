@@ -1,10 +1,12 @@
 // Where a datagram came from. The member table tells twins apart by it.
+#![tactic(auto)]
+
 ghost use Rattle.std.specs.Prelude.{◌≡◌};
 ghost use Rattle.origin.specs.Origins.{same_bytes, same_origin};
 
 // An address of sixteen bytes and a port.
 #[repr(C)]
-#[derive(Drop)]
+#[derive(Clone, Copy)]
 pub struct Origin {
     pub address: [u8; 16],
     pub port: u16,

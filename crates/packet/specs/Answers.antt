@@ -21,43 +21,43 @@ use Rattle.packet.specs.Contents.{contents, readable}
 abbrev pub head_of : List ℕ → ℕ → Head
 head_of d p = record { kind = kind d p; count = count d p; bytes = size d p; content = content d p }
 
-abbrev pub headUnless : Check → Head → PacketHead
-headUnless passed h = PacketHead.Head h
-headUnless (refused number place) h = PacketHead.Refused number
+abbrev pub head_unless : Check → Head → PacketHead
+head_unless passed h = PacketHead.Head h
+head_unless (refused number place) h = PacketHead.Refused number
 
 -- the header of the packet at p
-unfoldable pub headIs : Bool → List ℕ → ℕ → PacketHead
-headIs reduced d p = headUnless (head_check reduced d p) (head_of d p)
+unfoldable pub head_is : Bool → List ℕ → ℕ → PacketHead
+head_is reduced d p = head_unless (head_check reduced d p) (head_of d p)
 
 -- what the packet at p holds
-unfoldable pub packetIs : List ℕ → ℕ → Packet
-packetIs d p = cond (readable d p) (contents d p) Packet.Unreadable
+unfoldable pub packet_is : List ℕ → ℕ → Packet
+packet_is d p = cond (readable d p) (contents d p) Packet.Unreadable
 
-abbrev pub blockUnless : Check → Block → Block
-blockUnless passed b = b
-blockUnless (refused number place) b = Block.Refused number
+abbrev pub block_unless : Check → Block → Block
+block_unless passed b = b
+block_unless (refused number place) b = Block.Refused number
 
 -- whether the block at a place is a report, or how many bytes it takes where it gives no item
-unfoldable pub blockIs : List ℕ → ℕ → ℕ → Block
-blockIs d stop at =
-    blockUnless (block_check d stop at) (cond (reports d at) Block.Report (Block.Skipped (block_size d at)))
+unfoldable pub block_is : List ℕ → ℕ → ℕ → Block
+block_is d stop at =
+    block_unless (block_check d stop at) (cond (reports d at) Block.Report (Block.Skipped (block_size d at)))
 
 -- the same with the report's fields
-abbrev pub blockItemOf : Block → Report → BlockItem
-blockItemOf Block.Report r = BlockItem.Report r
-blockItemOf (Block.Skipped bytes) r = BlockItem.Skipped bytes
-blockItemOf (Block.Refused number) r = BlockItem.Refused number
+abbrev pub block_item_of : Block → Report → BlockItem
+block_item_of Block.Report r = BlockItem.Report r
+block_item_of (Block.Skipped bytes) r = BlockItem.Skipped bytes
+block_item_of (Block.Refused number) r = BlockItem.Refused number
 
-unfoldable pub blockItem : List ℕ → ℕ → ℕ → ℕ → BlockItem
-blockItem d sender stop at = blockItemOf (blockIs d stop at) (report_at d sender at)
+unfoldable pub block_item : List ℕ → ℕ → ℕ → ℕ → BlockItem
+block_item d sender stop at = block_item_of (block_is d stop at) (report_at d sender at)
 
 -- the report at a place, or that the datagram does not have its 32 bytes
-unfoldable pub reportIs : List ℕ → ℕ → ℕ → BlockReport
-reportIs d sender at = cond (ltb (length d - at) 32) BlockReport.Outside (BlockReport.Fields (report_at d sender at))
+unfoldable pub report_is : List ℕ → ℕ → ℕ → BlockReport
+report_is d sender at = cond (ltb (length d - at) 32) BlockReport.Outside (BlockReport.Fields (report_at d sender at))
 
 -- the settings in the packet at p, or that the datagram does not have its 36 bytes
-unfoldable pub settingsIs : List ℕ → ℕ → PacketSettings
-settingsIs d p = cond (ltb (length d - p) 36) PacketSettings.Outside (PacketSettings.Fields (settings_at d p))
+unfoldable pub settings_is : List ℕ → ℕ → PacketSettings
+settings_is d p = cond (ltb (length d - p) 36) PacketSettings.Outside (PacketSettings.Fields (settings_at d p))
 
 -- the source at a place, of those that end at `stop`, or that these run past the datagram, or no whole word is left
 unfoldable pub source_is : List ℕ → ℕ → ℕ → Source

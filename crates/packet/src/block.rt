@@ -1,7 +1,7 @@
 // The blocks of an XR packet, and the IDMS report among them.
 ghost use Rattle.std.specs.Prelude.{◌≡◌, ◌+◌, ◌≤◌, length};
 ghost use Rattle.packet.specs.Report.{report_at};
-ghost use Rattle.packet.specs.Answers.{blockIs, blockItem, reportIs};
+ghost use Rattle.packet.specs.Answers.{block_is, block_item, report_is};
 
 use crate::bytes::{read16, read32, read64, saturating_sub};
 use idms::Report;
@@ -9,14 +9,14 @@ use packet_checks::{Block, idms_block, presented};
 use refusals::BLOCK_PAST_END;
 
 // The fields of a report, or that the datagram does not have its 32 bytes.
-#[derive(Drop)]
+#[derive(Clone, Copy)]
 pub enum BlockReport {
     Fields(Report),
     Outside,
 }
 
 // What a block gives: its report, nothing, with the bytes to step over, or the number of a refusal.
-#[derive(Drop)]
+#[derive(Clone, Copy)]
 pub enum BlockItem {
     Report(Report),
     Skipped(usize),
@@ -26,7 +26,7 @@ pub enum BlockItem {
 // Checks 6 and 7 at a block, by its type. The two cases stay apart: where every block of type 12 is one branch, the
 // next place does not wait for the length that was read.
 pub fn block_at(d: &[u8], at: usize, stop: usize) -> Block
-    ensures { result ≡ blockIs d.now stop at }
+    ensures { result ≡ block_is d.now stop at }
 {
     if d.len() < stop {
         return Block::Refused(BLOCK_PAST_END);
@@ -66,7 +66,7 @@ fn read_report(d: &[u8], sender: u32, at: usize) -> Report
 
 // The report at a place.
 pub fn report_at(d: &[u8], sender: u32, at: usize) -> BlockReport
-    ensures { result ≡ reportIs d.now sender at }
+    ensures { result ≡ report_is d.now sender at }
 {
     if saturating_sub(d.len(), at) < 32 {
         return BlockReport::Outside;
@@ -77,7 +77,7 @@ pub fn report_at(d: &[u8], sender: u32, at: usize) -> BlockReport
 // The report in the block at a place, once checks 6 and 7 have passed and where it gives one. `block_at` and
 // `report_at` do the same in two calls, for a loop in which both are to be inlined.
 pub fn block_item(d: &[u8], sender: u32, at: usize, stop: usize) -> BlockItem
-    ensures { result ≡ blockItem d.now sender stop at }
+    ensures { result ≡ block_item d.now sender stop at }
 {
     match block_at(d, at, stop) {
         Block::Refused(number) => BlockItem::Refused(number),

@@ -4,7 +4,7 @@ ghost use Rattle.packet.specs.Bytes.{from_bytes, be16, be32, be64};
 ghost use Rattle.packet.specs.Answers.{source_is};
 
 // A source number, or that there is none to read at the place.
-#[derive(Drop)]
+#[derive(Clone, Copy)]
 pub enum Source {
     Number(u32),
     Outside,

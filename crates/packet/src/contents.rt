@@ -1,14 +1,14 @@
 // What a packet holds, by its type.
 ghost use Rattle.std.specs.Prelude.{◌≡◌, true};
 ghost use Rattle.packet.specs.Contents.{contents, readable};
-ghost use Rattle.packet.specs.Answers.{head_of, packetIs};
+ghost use Rattle.packet.specs.Answers.{head_of, packet_is};
 
 use crate::bytes::{read32, saturating_sub};
 use crate::header::{Head, known_head, packet_size};
 use packet_checks::{PacketType, is_short};
 
 // What a packet holds. Each form ends with the place of the packet behind.
-#[derive(Drop)]
+#[derive(Clone, Copy)]
 pub enum Packet {
     // Nothing that is read.
     Unread(usize),
@@ -41,7 +41,7 @@ fn contents_at(d: &[u8], p: usize, h: Head) -> Packet
 
 // What the packet at p holds. Of its checks only those are made that reading needs.
 pub fn packet_at(d: &[u8], p: usize) -> Packet
-    ensures { result ≡ packetIs d.now p }
+    ensures { result ≡ packet_is d.now p }
 {
     if saturating_sub(d.len(), p) < 4 {
         return Packet::Unreadable;

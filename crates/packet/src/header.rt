@@ -1,14 +1,14 @@
 // A packet's header: checks 2, 3, 4 and 5.
 ghost use Rattle.std.specs.Prelude.{◌≡◌, ◌+◌, ◌/◌, ◌%◌, ◌≤◌, length, eqb};
 ghost use Rattle.packet.specs.Packet.{size, padding_is_bad, content};
-ghost use Rattle.packet.specs.Answers.{head_of, headIs};
+ghost use Rattle.packet.specs.Answers.{head_of, head_is};
 
 use crate::bytes::{read16, saturating_sub, wide};
 use packet_checks::{PacketType, is_bad_count, is_bad_first, is_misplaced, is_short, kind_of};
 use refusals::{BAD_FIRST, BAD_PACKET, BAD_PADDING, SHORT_CONTENT};
 
 // What later steps use of a header. `content` counts the header and not the padding.
-#[derive(Drop)]
+#[derive(Clone, Copy)]
 pub struct Head {
     pub kind: PacketType,
     pub count: usize,
@@ -17,7 +17,7 @@ pub struct Head {
 }
 
 // A header that passed checks 2 to 5, or the number of the first that it did not.
-#[derive(Drop)]
+#[derive(Clone, Copy)]
 pub enum PacketHead {
     Head(Head),
     Refused(u64),
@@ -80,7 +80,7 @@ pub(crate) fn known_head(d: &[u8], p: usize, bytes: usize) -> Head
 // The header of the packet at p, once checks 2, 3, 4 and 5 have passed, of which 4 is made unless reduced size was
 // agreed.
 pub fn head_at(d: &[u8], reduced: bool, p: usize) -> PacketHead
-    ensures { result ≡ headIs reduced d.now p }
+    ensures { result ≡ head_is reduced d.now p }
 {
     if saturating_sub(d.len(), p) < 4 {
         return PacketHead::Refused(BAD_PACKET);

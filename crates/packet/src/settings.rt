@@ -1,13 +1,13 @@
 // The IDMS settings packet.
 ghost use Rattle.std.specs.Prelude.{◌≡◌, ◌+◌, ◌≤◌, length};
 ghost use Rattle.packet.specs.Settings.{settings_at};
-ghost use Rattle.packet.specs.Answers.{settingsIs};
+ghost use Rattle.packet.specs.Answers.{settings_is};
 
 use crate::bytes::{read32, read64, saturating_sub};
 use idms::Settings;
 
 // The fields of a settings packet, or that the datagram does not have its 36 bytes.
-#[derive(Drop)]
+#[derive(Clone, Copy)]
 pub enum PacketSettings {
     Fields(Settings),
     Outside,
@@ -30,7 +30,7 @@ fn read_settings(d: &[u8], p: usize) -> Settings
 
 // The settings at a place.
 pub fn settings_at(d: &[u8], p: usize) -> PacketSettings
-    ensures { result ≡ settingsIs d.now p }
+    ensures { result ≡ settings_is d.now p }
 {
     if saturating_sub(d.len(), p) < 36 {
         return PacketSettings::Outside;

@@ -6,7 +6,7 @@ use refusals::BAD_BLOCK_LENGTH;
 
 // What is found at a block: a report, in the 32 bytes that check 7 has seen to; a block that gives no item, with its
 // bytes; or the number of a refusal.
-#[derive(Drop)]
+#[derive(Clone, Copy)]
 pub enum Block {
     Report,
     Skipped(usize),

@@ -4,7 +4,7 @@ ghost use Rattle.packet_checks.specs.Header.{kind_of, opens, first_is_bad, conte
 
 // A packet type that is looked into, with its least content, which for settings is exact; or another one, which is
 // stepped over unread.
-#[derive(Drop)]
+#[derive(Clone, Copy)]
 pub enum PacketType {
     Sr(usize),
     Rr(usize),

@@ -1,4 +1,6 @@
 // The places of the member table: one word marks the places held, its lowest bit the first place.
+#![tactic(auto)]
+
 ghost use Rattle.std.specs.Prelude.{◌≡◌};
 ghost use Rattle.places.specs.Places.{held_in, lowest_free, holds_place, with_place, without_place};
 ghost use Rattle.places.specs.Free.{IsLowestFree};

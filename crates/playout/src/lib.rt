@@ -1,5 +1,7 @@
 // A loudspeaker's playout clock (document 02, E10): a tick and a set on plain numbers. The record itself is lent to the
 // exports of crate prunepocket, which read it, call these and write the one field back.
+#![tactic(auto)]
+
 ghost use Rattle.std.specs.Prelude.{◌≡◌};
 ghost use Rattle.playout.specs.PlayoutClock.{is_bad_step, is_outside, clock_checks, lesser, towards, ticked, target_set};
 
@@ -7,7 +9,7 @@ use refusals::{BAD_STEP, OUTSIDE_RANGE};
 
 // How late a loudspeaker plays, how late it is to play, and the most by which one tick changes the first.
 #[repr(C)]
-#[derive(Drop)]
+#[derive(Clone, Copy)]
 pub struct PlayoutClock {
     pub current: i64,
     pub target: i64,
@@ -15,14 +17,14 @@ pub struct PlayoutClock {
 }
 
 // What a tick answers: a refusal's number or 0, and the current lateness afterwards.
-#[derive(Drop)]
+#[derive(Clone, Copy)]
 pub struct Ticked {
     pub number: u64,
     pub current: i64,
 }
 
 // What a set answers: a refusal's number or 0, and the target afterwards.
-#[derive(Drop)]
+#[derive(Clone, Copy)]
 pub struct TargetSet {
     pub number: u64,
     pub target: i64,

@@ -35,7 +35,7 @@ use Rattle.datagram.specs.declared.Count.{Count}
 use Rattle.refusals.specs.Refusals.{short_buffer, none_counted, bad_line, bad_group}
 use Rattle.packet.specs.Checks.{Check, passed, refused}
 use Rattle.datagram.specs.Datagram.{DatagramNumber, datagram_check, datagram_items}
-use Rattle.datagram.specs.Answers.{itemCount}
+use Rattle.datagram.specs.Answers.{item_count}
 use Rattle.rtcp.specs.Answers.{item_of}
 use Rattle.rtcp.specs.Rows.{rows_answer}
 use Rattle.datagram.proofs.Theorems.{Numbered, datagram_numbered}
@@ -43,7 +43,7 @@ use Rattle.rtcp.proofs.Theorems.{count_numbered, item_numbered, rows_numbered}
 use Rattle.writer.specs.Messages.{settings_message}
 use Rattle.sdp.specs.declared.SyncGroup.{SyncGroup}
 use Rattle.sdp.specs.Line.{group_message}
-use Rattle.sdp.specs.Answers.{groupIn}
+use Rattle.sdp.specs.Answers.{group_in}
 use Rattle.sdp.proofs.Theorems.{read_numbered}
 use Rattle.table.specs.declared.Table.{Table}
 use Rattle.choosing.specs.Marked.{marked_at}
@@ -52,7 +52,7 @@ use Rattle.table.specs.Members.{opening_of, records_in}
 use Rattle.table.specs.Choose.{choice_of}
 use Rattle.table.specs.SettingsCheck.{verdict_on}
 use Rattle.intake.specs.Datagrams.{calls_in, calls_answered, answered_unless, datagram_answered}
-use Rattle.prunepocket.specs.Answers.{countAnswer, cellAnswer, fieldAnswer}
+use Rattle.prunepocket.specs.Answers.{count_answer, cell_answer, field_answer}
 use Rattle.prunepocket.specs.Messages.{report_message_with_p, write_answer}
 use Rattle.prunepocket.specs.SiteFile.{group_answer}
 use Rattle.prunepocket.specs.Following.{followed_of}
@@ -62,50 +62,50 @@ use Rattle.prunepocket.specs.SettingsCheck.{settings_answered}
 
 count-accepted :
     (c : Count) → ((r : Refusal) → c ≡ Count.Refused r → 1 ≤ r.number)
-    → ((countAnswer c).number ≡ 0) ↔ ((n : ℕ) × (c ≡ Count.Items n))
+    → ((count_answer c).number ≡ 0) ↔ ((n : ℕ) × (c ≡ Count.Items n))
 count-accepted (Count.Items n) h = ((λ e. (n, refl)), λ s. refl)
 count-accepted (Count.Refused r) h = ((λ e. absurd (omega (arith, h r refl))), λ s. let e : _ = s.1 in cc)
 
 -- prunepocket_count_items
 pub count_items_accepted :
     (reduced : Bool) (d : List ℕ)
-    → ((countAnswer (itemCount reduced d)).number ≡ 0) ↔ ((n : ℕ) × (itemCount reduced d ≡ Count.Items n))
-count_items_accepted reduced d = count-accepted (itemCount reduced d) (λ r e. (count_numbered reduced d r e).0)
+    → ((count_answer (item_count reduced d)).number ≡ 0) ↔ ((n : ℕ) × (item_count reduced d ≡ Count.Items n))
+count_items_accepted reduced d = count-accepted (item_count reduced d) (λ r e. (count_numbered reduced d r e).0)
 
 -- prunepocket_read_items
 pub read_items_accepted :
     (reduced : Bool) (d rows : List ℕ)
-    → ((countAnswer (rows_answer reduced d rows)).number ≡ 0) ↔ ((n : ℕ) × (rows_answer reduced d rows ≡ Count.Items n))
+    → ((count_answer (rows_answer reduced d rows)).number ≡ 0) ↔ ((n : ℕ) × (rows_answer reduced d rows ≡ Count.Items n))
 read_items_accepted reduced d rows =
     count-accepted (rows_answer reduced d rows)
     (λ r e. ⊎_elim (λ z. z.0) (λ z. omega arith) (rows_numbered reduced d rows r e))
 
 field_accepted :
     (f : Found) (field : ℕ) → ((r : Refusal) → f ≡ Found.Refused r → 1 ≤ r.number)
-    → ((fieldAnswer f field).number ≡ 0)
+    → ((field_answer f field).number ≡ 0)
     ↔ ((x : Placed) × (v : ℕ) × (f ≡ Found.Item x) × (field_of x field ≡ Field.Value v))
 field_accepted (Found.Refused r) field h = ((λ e. absurd (omega (arith, h r refl))), λ s. let e : _ = s.2 in cc)
 field_accepted (Found.Item x) field h = (there (field_of x field) refl, back)
   where
     there :
-        (t : Field) → field_of x field ≡ t → (cellAnswer (field_of x field)).number ≡ 0
+        (t : Field) → field_of x field ≡ t → (cell_answer (field_of x field)).number ≡ 0
         → (y : Placed) × (v : ℕ) × (Found.Item x ≡ Found.Item y) × (field_of y field ≡ Field.Value v)
     there (Field.Value v) e z = (x, v, refl, e)
     there Field.Absent e z = absurd (omega (arith, rw e at z))
 
     back :
         (y : Placed) × (v : ℕ) × (Found.Item x ≡ Found.Item y) × (field_of y field ≡ Field.Value v)
-        → (cellAnswer (field_of x field)).number ≡ 0
+        → (cell_answer (field_of x field)).number ≡ 0
     back s =
         let items : Found.Item x ≡ Found.Item s.0 = s.2 in
         let same : x ≡ s.0 = cc in
         let value : field_of x field ≡ Field.Value s.1 = ap (λ (y : Placed). field_of y field) same ∙ s.3 in
-        ap (λ (t : Field). (cellAnswer t).number) value
+        ap (λ (t : Field). (cell_answer t).number) value
 
 -- prunepocket_item_field
 pub item_field_accepted :
     (reduced : Bool) (d : List ℕ) (index field : ℕ)
-    → ((fieldAnswer (item_of reduced d index) field).number ≡ 0)
+    → ((field_answer (item_of reduced d index) field).number ≡ 0)
     ↔ ((x : Placed) × (v : ℕ) × (item_of reduced d index ≡ Found.Item x) × (field_of x field ≡ Field.Value v))
 item_field_accepted reduced d index field =
     field_accepted (item_of reduced d index) field
@@ -145,8 +145,8 @@ write_settings_accepted s buf = message_accepted (settings_message s) buf (omega
 
 -- prunepocket_read_sync_group
 pub read_sync_group_accepted :
-    (d : List ℕ) → ((group_answer (groupIn d)).number ≡ 0) ↔ ((group : ℕ) × (groupIn d ≡ SyncGroup.Group group))
-read_sync_group_accepted d = go (groupIn d) (read_numbered d)
+    (d : List ℕ) → ((group_answer (group_in d)).number ≡ 0) ↔ ((group : ℕ) × (group_in d ≡ SyncGroup.Group group))
+read_sync_group_accepted d = go (group_in d) (read_numbered d)
   where
     go :
         (r : SyncGroup) → ((n : ℕ) → r ≡ SyncGroup.Refused n → (n ≡ bad_line) ⊎ (n ≡ bad_group))

@@ -14,39 +14,39 @@ abbrev pub agreed : ℕ → Bool
 agreed n = not (eqb n 0)
 
 -- number 0 at place 0: the call was not refused
-abbrev pub noRefusal : Answer
-noRefusal = record { number = 0; place = 0 }
+abbrev pub no_refusal : Answer
+no_refusal = record { number = 0; place = 0 }
 
 -- a refusal at place 0
-abbrev pub atPlaceZero : ℕ → Answer
-atPlaceZero number = record { number = number; place = 0 }
+abbrev pub at_place_zero : ℕ → Answer
+at_place_zero number = record { number = number; place = 0 }
 
-abbrev pub refusalAnswer : Refusal → Answer
-refusalAnswer r = record { number = r.number; place = r.place }
+abbrev pub refusal_answer : Refusal → Answer
+refusal_answer r = record { number = r.number; place = r.place }
 
 -- of a call that puts a count: its answer, and the count's memory afterwards
-abbrev pub countAnswer : Count → Answer
-countAnswer (Count.Items n) = noRefusal
-countAnswer (Count.Refused r) = refusalAnswer r
+abbrev pub count_answer : Count → Answer
+count_answer (Count.Items n) = no_refusal
+count_answer (Count.Refused r) = refusal_answer r
 
-abbrev pub countAfter : Count → ℕ → ℕ
-countAfter (Count.Items n) before = n
-countAfter (Count.Refused r) before = before
+abbrev pub count_after : Count → ℕ → ℕ
+count_after (Count.Items n) before = n
+count_after (Count.Refused r) before = before
 
 -- of a call that puts a field of an item: its answer, 9 at place 0 also where the item has no such field, and the
 -- field's memory afterwards
-abbrev pub cellAnswer : Field → Answer
-cellAnswer (Field.Value v) = noRefusal
-cellAnswer Field.Absent = atPlaceZero no_such_item
+abbrev pub cell_answer : Field → Answer
+cell_answer (Field.Value v) = no_refusal
+cell_answer Field.Absent = at_place_zero no_such_item
 
-abbrev pub cellAfter : Field → ℕ → ℕ
-cellAfter (Field.Value v) before = v
-cellAfter Field.Absent before = before
+abbrev pub cell_after : Field → ℕ → ℕ
+cell_after (Field.Value v) before = v
+cell_after Field.Absent before = before
 
-abbrev pub fieldAnswer : Found → ℕ → Answer
-fieldAnswer (Found.Item x) field = cellAnswer (field_of x field)
-fieldAnswer (Found.Refused r) field = refusalAnswer r
+abbrev pub field_answer : Found → ℕ → Answer
+field_answer (Found.Item x) field = cell_answer (field_of x field)
+field_answer (Found.Refused r) field = refusal_answer r
 
-abbrev pub fieldAfter : Found → ℕ → ℕ → ℕ
-fieldAfter (Found.Item x) field before = cellAfter (field_of x field) before
-fieldAfter (Found.Refused r) field before = before
+abbrev pub field_after : Found → ℕ → ℕ → ℕ
+field_after (Found.Item x) field before = cell_after (field_of x field) before
+field_after (Found.Refused r) field before = before

@@ -6,7 +6,7 @@ use Rattle.idms.specs.declared.Report.{Report}
 use Rattle.idms.specs.declared.Settings.{Settings}
 use Rattle.writer.specs.Messages.{report_is_unwritable, report_message}
 use Rattle.prunepocket.specs.declared.Answer.{Answer}
-use Rattle.prunepocket.specs.Answers.{noRefusal, atPlaceZero}
+use Rattle.prunepocket.specs.Answers.{no_refusal, at_place_zero}
 
 abbrev pub report_of : (sender type p group media received rtp presented : ℕ) → Report
 report_of sender type p group media received rtp presented =
@@ -35,8 +35,8 @@ report_message_with_p p r =
     record { unwritable = report_is_out p r; number = (report_message r).number; bytes = (report_message r).bytes }
 
 abbrev pub write_answer : Written → Answer
-write_answer (Written.Bytes n) = noRefusal
-write_answer (Written.Refused number) = atPlaceZero number
+write_answer (Written.Bytes n) = no_refusal
+write_answer (Written.Refused number) = at_place_zero number
 
 abbrev pub write_after : Written → ℕ → ℕ
 write_after (Written.Bytes n) before = n

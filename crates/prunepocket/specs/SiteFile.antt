@@ -2,11 +2,11 @@
 use Rattle.std.specs.Prelude.{ℕ}
 use Rattle.sdp.specs.declared.SyncGroup.{SyncGroup}
 use Rattle.prunepocket.specs.declared.Answer.{Answer}
-use Rattle.prunepocket.specs.Answers.{noRefusal, atPlaceZero}
+use Rattle.prunepocket.specs.Answers.{no_refusal, at_place_zero}
 
 abbrev pub group_answer : SyncGroup → Answer
-group_answer (SyncGroup.Group group) = noRefusal
-group_answer (SyncGroup.Refused number) = atPlaceZero number
+group_answer (SyncGroup.Group group) = no_refusal
+group_answer (SyncGroup.Refused number) = at_place_zero number
 
 abbrev pub group_after : SyncGroup → ℕ → ℕ
 group_after (SyncGroup.Group group) before = group

@@ -1,19 +1,21 @@
 // Every function that C and Rust call, under the names of include/prunepocket.h. Each is thin: it calls a proved
 // function of a crate below and hands its answer on as plain numbers.
+#![tactic(auto)]
+
 mod loudspeaker;
 mod members;
 mod recordings;
 mod site_file;
 
 ghost use Rattle.std.specs.Prelude.{◌≡◌};
-ghost use Rattle.datagram.specs.Answers.{itemCount};
+ghost use Rattle.datagram.specs.Answers.{item_count};
 ghost use Rattle.rtcp.specs.Answers.{item_of};
 ghost use Rattle.rtcp.specs.Rows.{rows_answer, rows_after};
 ghost use Rattle.writer.specs.Messages.{settings_message};
 ghost use Rattle.prunepocket.specs.Messages.{report_of, report_message_with_p, settings_of};
 ghost use Rattle.prunepocket.specs.Messages.{write_answer, write_after, Wrote};
-ghost use Rattle.prunepocket.specs.Answers.{agreed, noRefusal, refusalAnswer, countAnswer, countAfter};
-ghost use Rattle.prunepocket.specs.Answers.{fieldAnswer, fieldAfter};
+ghost use Rattle.prunepocket.specs.Answers.{agreed, no_refusal, refusal_answer, count_answer, count_after};
+ghost use Rattle.prunepocket.specs.Answers.{field_answer, field_after};
 
 use buffer::Written;
 use idms::{Field, Found, Refusal, Report, Settings};
@@ -22,7 +24,7 @@ use rtcp::Count;
 
 // A refusal's number and place, or 0 and 0 where there was none.
 #[repr(C)]
-#[derive(Drop)]
+#[derive(Clone, Copy)]
 pub struct Answer {
     pub number: u64,
     pub place: u64,
@@ -30,7 +32,7 @@ pub struct Answer {
 
 // No refusal.
 pub(crate) fn accept() -> Answer
-    ensures { result ≡ noRefusal }
+    ensures { result ≡ no_refusal }
 {
     Answer {
         number: 0,
@@ -40,7 +42,7 @@ pub(crate) fn accept() -> Answer
 
 // A refusal as two numbers.
 fn refuse(r: Refusal) -> Answer
-    ensures { result ≡ refusalAnswer r }
+    ensures { result ≡ refusal_answer r }
 {
     Answer {
         number: r.number,
@@ -63,9 +65,9 @@ pub extern "C" fn prunepocket_count_items(
     reduced_size: u32,
     count: &mut u64,
 ) -> Answer
-    ensures { (result ≡ countAnswer (itemCount (agreed reduced_size) datagram.now))
+    ensures { (result ≡ count_answer (item_count (agreed reduced_size) datagram.now))
         × (count.new
-        ≡ countAfter (itemCount (agreed reduced_size) datagram.now) count.old) }
+        ≡ count_after (item_count (agreed reduced_size) datagram.now) count.old) }
 {
     match rtcp::count_items(datagram, is_agreed(reduced_size)) {
         Count::Refused(r) => refuse(r),
@@ -86,9 +88,9 @@ pub extern "C" fn prunepocket_item_field(
     field: u64,
     value: &mut u64,
 ) -> Answer
-    ensures { (result ≡ fieldAnswer (item_of (agreed reduced_size) datagram.now index) field)
+    ensures { (result ≡ field_answer (item_of (agreed reduced_size) datagram.now index) field)
         × (value.new
-        ≡ fieldAfter (item_of (agreed reduced_size) datagram.now index) field value.old) }
+        ≡ field_after (item_of (agreed reduced_size) datagram.now index) field value.old) }
 {
     match rtcp::item_at(datagram, is_agreed(reduced_size), index as usize) {
         Found::Refused(r) => refuse(r),
@@ -114,10 +116,10 @@ pub extern "C" fn prunepocket_read_items(
     rows: &mut [u64],
     count: &mut u64,
 ) -> Answer
-    ensures { (result ≡ countAnswer (rows_answer (agreed reduced_size) datagram.now rows.old))
+    ensures { (result ≡ count_answer (rows_answer (agreed reduced_size) datagram.now rows.old))
         × (rows.new ≡ rows_after (agreed reduced_size) datagram.now rows.old)
         × (count.new
-        ≡ countAfter (rows_answer (agreed reduced_size) datagram.now rows.old)
+        ≡ count_after (rows_answer (agreed reduced_size) datagram.now rows.old)
         count.old) }
 {
     match rtcp::read_items(datagram, is_agreed(reduced_size), rows) {

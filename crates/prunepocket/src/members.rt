@@ -21,7 +21,7 @@ use table::{Answered, Place, Table};
 
 // What choosing answers: 0 and the target, or a refusal's number and a target of zeros; and the table as it was.
 #[repr(C)]
-#[derive(Drop)]
+#[derive(Clone, Copy)]
 pub struct Followed {
     pub number: u64,
     pub target: Target,
@@ -31,7 +31,7 @@ pub struct Followed {
 // What checking a settings packet answers: 0 and whether it suits, 1 or 0, or a refusal's number and 0; and the table as
 // it was.
 #[repr(C)]
-#[derive(Drop)]
+#[derive(Clone, Copy)]
 pub struct SettingsAnswered {
     pub number: u64,
     pub suits: u32,

@@ -11,7 +11,7 @@ use replay::{Replayed, replay};
 // What a replay answers, as numbers alone: the refusal's number or 0, how many entries there are, the number that
 // choosing gave, and the target.
 #[repr(C)]
-#[derive(Drop)]
+#[derive(Clone, Copy)]
 pub struct RecordingAnswered {
     pub number: u64,
     pub entries: u64,

@@ -1,7 +1,7 @@
 // The line of a site file that carries the group number, for C.
 ghost use Rattle.std.specs.Prelude.{◌≡◌};
 ghost use Rattle.sdp.specs.Line.{group_message};
-ghost use Rattle.sdp.specs.Answers.{groupIn};
+ghost use Rattle.sdp.specs.Answers.{group_in};
 ghost use Rattle.prunepocket.specs.Messages.{Wrote};
 ghost use Rattle.prunepocket.specs.SiteFile.{group_answer, group_after};
 
@@ -11,8 +11,8 @@ use sdp::SyncGroup;
 // Puts the group number of a line into `group`, which a refusal leaves as it was.
 #[unsafe(no_mangle)]
 pub extern "C" fn prunepocket_read_sync_group(line: &[u8], group: &mut u32) -> Answer
-    ensures { (result ≡ group_answer (groupIn line.now))
-        × (group.new ≡ group_after (groupIn line.now) group.old) }
+    ensures { (result ≡ group_answer (group_in line.now))
+        × (group.new ≡ group_after (group_in line.now) group.old) }
 {
     match sdp::read_sync_group(line) {
         SyncGroup::Refused(number) => Answer { number, place: 0 },

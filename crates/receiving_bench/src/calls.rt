@@ -15,7 +15,7 @@ use rtcp::Count;
 use table::{Answered, Outcome, Table};
 
 // The table after a step, and the step's line with what came.
-#[derive(Drop)]
+#[derive(Clone, Copy)]
 pub(crate) struct Told {
     pub table: Table,
     pub line: Line,

@@ -8,7 +8,7 @@ use origin::{Origin, same_origin};
 // A line's form, the place behind what was read of it, and its values in the order of its words, the answer last. The
 // origin is apart. Words of hex and a text are the place where they stand, and a report's presented field stands behind
 // its P.
-#[derive(Drop)]
+#[derive(Clone, Copy)]
 pub(crate) struct Line {
     pub form: usize,
     pub at: usize,

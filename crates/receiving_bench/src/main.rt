@@ -56,6 +56,8 @@
 // 32 hex digits. HEX is eight hex digits. A datagram that is taken in has at most seven answers, and a recording at most
 // 4096 bytes. A TEXT stands in double quotes and has at most 128 characters; in it \r is CR and \n is LF, every other
 // character stands for itself, and none is a double quote.
+#![tactic(auto)]
+
 mod calls;
 mod datagrams;
 mod forms;
@@ -94,7 +96,7 @@ use register::Record;
 use table::Table;
 
 // How many answers were compared, and how many of them were as expected.
-#[derive(Drop)]
+#[derive(Clone, Copy)]
 struct Score {
     compared: u64,
     expected: u64,

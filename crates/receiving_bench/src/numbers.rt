@@ -7,7 +7,7 @@ use crate::text::{byte_at, forward};
 pub(crate) const NOWHERE: usize = 9223372036854775808;
 
 // What a word stands for and the place behind it, which is NOWHERE where no such word stands.
-#[derive(Drop)]
+#[derive(Clone, Copy)]
 pub(crate) struct Parsed {
     pub at: usize,
     pub value: u64,

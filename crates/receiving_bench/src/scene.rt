@@ -8,7 +8,7 @@ use register::{Reading, Record, ReportFields};
 
 // What the table was opened for, the reading, the group and media source of reports, where in the text the datagram
 // stands, whether reduced size was agreed, and how many bytes of a recording there are.
-#[derive(Drop)]
+#[derive(Clone, Copy)]
 pub(crate) struct Scene {
     pub group: u32,
     pub media: u32,

@@ -1,5 +1,6 @@
 // The refusal numbers of document 01 and, from 21 on and of settings, document 02, each once for all code. The
 // definitions have them under the same names (specs/Refusals.antt). There is no number 8.
+#![tactic(auto)]
 
 // Datagram length is 0, not a multiple of 4, or over 2,048.
 pub const BAD_LENGTH: u64 = 1;

@@ -1,11 +1,13 @@
 // What a member table and the plain register are told, what a table holds of a member, and what choosing and checking a
 // settings packet answer.
+#![tactic(auto)]
+
 use origin::Origin;
 
 // A report as it stands in a row: the fields of a report item but its sender, who is the record's source. `p` is a
 // number so that a host in C need not vet it: any value but 0 is P 1.
 #[repr(C)]
-#[derive(Drop)]
+#[derive(Clone, Copy)]
 pub struct ReportFields {
     pub received: u64,
     pub group: u32,
@@ -18,7 +20,7 @@ pub struct ReportFields {
 
 // A report with its source number and its origin: what the table is told.
 #[repr(C)]
-#[derive(Drop)]
+#[derive(Clone, Copy)]
 pub struct Record {
     pub source: u32,
     pub origin: Origin,
@@ -31,7 +33,7 @@ pub const TALLY_LIMIT: u32 = 4294967295;
 // A member: its number, its origin and its last accepted report, and its tally: how many times its number was refused
 // with 14, by report or farewell, since it last joined, up to TALLY_LIMIT.
 #[repr(C)]
-#[derive(Drop)]
+#[derive(Clone, Copy)]
 pub struct Member {
     pub record: Record,
     pub tally: u32,
@@ -39,7 +41,7 @@ pub struct Member {
 
 // A sender's reading of both clocks: NTP time N and RTP time R.
 #[repr(C)]
-#[derive(Drop)]
+#[derive(Clone, Copy)]
 pub struct Reading {
     pub ntp: u64,
     pub rtp: u32,
@@ -48,7 +50,7 @@ pub struct Reading {
 // The member to follow: its number, the settings fields from its own report, and how many members were counted.
 // `presented` is 0 in arrival mode.
 #[repr(C)]
-#[derive(Drop)]
+#[derive(Clone, Copy)]
 pub struct Target {
     pub source: u32,
     pub group: u32,
@@ -60,14 +62,14 @@ pub struct Target {
 }
 
 // What choosing answers: a target, or a refusal's number.
-#[derive(Drop)]
+#[derive(Clone, Copy)]
 pub enum Choice {
     Target(Target),
     Refused(u64),
 }
 
 // Whether a settings packet suits the members, or a refusal's number.
-#[derive(Drop)]
+#[derive(Clone, Copy)]
 pub enum Verdict {
     Yes,
     No,

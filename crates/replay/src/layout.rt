@@ -19,7 +19,7 @@ pub const RECORDING_LIMIT: usize = 65536;
 pub const ENTRY_LIMIT: usize = 256;
 
 // An entry: the sender's reading, the origin, and where the body starts and ends.
-#[derive(Drop)]
+#[derive(Clone, Copy)]
 pub(crate) struct Listed {
     pub(crate) at: Reading,
     pub(crate) origin: Origin,

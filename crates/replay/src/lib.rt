@@ -1,5 +1,7 @@
 // Runs a site recording through a member table: each entry's datagram in turn, under its own origin and reading, with a
 // row of numbers for what it gave, and then the choice at the last entry's reading.
+#![tactic(auto)]
+
 mod layout;
 mod steps;
 
@@ -21,7 +23,7 @@ use table::{
 };
 
 // What a replay answers: how many entries there are and the choice at the last one's reading, or a refusal's number.
-#[derive(Drop)]
+#[derive(Clone, Copy)]
 pub enum Replayed {
     Entries(usize, Choice),
     Refused(u64),

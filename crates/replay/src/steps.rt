@@ -1,7 +1,7 @@
 // An entry's datagram, item by item, and the entry's row as far as its items were taken.
 ghost use Rattle.std.specs.Prelude.{◌≡◌, ◌+◌, ◌≤◌, ◌<◌, length, false};
 ghost use Rattle.std.proofs.lemmas.List.Edits.{sets};
-ghost use Rattle.datagram.specs.Answers.{itemCount};
+ghost use Rattle.datagram.specs.Answers.{item_count};
 ghost use Rattle.replay.specs.Replay.{entry_row_length};
 ghost use Rattle.replay.specs.Steps.{datagram_of, cursor_behind, next_in, items_in, first_row, row_after, cells_of};
 
@@ -9,7 +9,7 @@ use crate::layout::Listed;
 use rtcp::{Count, Step, count_items, first_cursor, next_item};
 
 // How many items there are, how many of those so far were accepted, and the first refusal so far, or 0.
-#[derive(Drop)]
+#[derive(Clone, Copy)]
 pub(crate) struct Row {
     items: u64,
     accepted: u64,
@@ -19,7 +19,7 @@ pub(crate) struct Row {
 // How many items an entry's datagram has, or its refusal. Reduced size is off.
 pub(crate) fn count_entry(f: &[u8], entry: Listed) -> Count
     requires { (entry.body ≤ entry.end) × (entry.end ≤ length f.now) }
-    ensures { result ≡ itemCount false (datagram_of f.now entry) }
+    ensures { result ≡ item_count false (datagram_of f.now entry) }
 {
     let body = entry.body;
     let end = entry.end;

@@ -1,6 +1,8 @@
 // Runs the site recording on standard input through the member table and prints the lines of document 02, E7: how many
 // entries there are, a line for each, and the target; or the refusal alone. The library decides everything; no contract
 // can say what is read or written, so these functions are proved to be safe and to end.
+#![tactic(auto)]
+
 ghost use Rattle.std.specs.Prelude.{◌≤◌, ◌<◌};
 ghost use Rattle.replay.specs.Recording.{entry_limit};
 

@@ -10,23 +10,23 @@ use native.Mathlib.Omega.{arith}
 use Rattle.refusals.specs.Refusals.{bad_first}
 use Rattle.packet.specs.Checks.{Check}
 use Rattle.datagram.specs.Datagram.{datagram_check, datagram_items}
-use Rattle.datagram.specs.Answers.{countUnless, itemCount}
+use Rattle.datagram.specs.Answers.{count_unless, item_count}
 use Rattle.datagram.proofs.Laws.Answers.{count-of-refused}
 use Rattle.datagram.proofs.Theorems.{datagram-alike, datagram_not_four}
-use Rattle.rtcp.specs.Answers.{itemUnless, item_of, cursorUnless, cursorOn}
+use Rattle.rtcp.specs.Answers.{item_unless, item_of, cursor_unless, cursor_on}
 use Rattle.rtcp.specs.Rows.{rows_unless, filled_unless, rows_answer, rows_after}
 use Rattle.rtcp.specs.ReducedSize.{NeedsReducedSize, AnswersAlike, NeverFour, EveryDatagramRead}
 use Rattle.rtcp.proofs.Laws.Refusals.{count-refusals, cursor-refusals, item-refusals, rows-refusals}
 
 answers-alike : (d : List ℕ) → (NeedsReducedSize d → ⊥) → AnswersAlike d
-unfolding itemCount item_of cursorOn rows_answer rows_after
+unfolding item_count item_of cursor_on rows_answer rows_after
 answers-alike d h =
     let same : datagram_check true d ≡ datagram_check false d =
     datagram-alike d (λ e. h (count-of-refused false d bad_first 0 e)) in
     record {
-      count = ap (λ (k : Check). countUnless k (length (datagram_items d))) same;
-      item = λ index. ap (λ (k : Check). itemUnless k (datagram_items d) index) same;
-      cursor = ap (λ (k : Check). cursorUnless k (length (datagram_items d))) same;
+      count = ap (λ (k : Check). count_unless k (length (datagram_items d))) same;
+      item = λ index. ap (λ (k : Check). item_unless k (datagram_items d) index) same;
+      cursor = ap (λ (k : Check). cursor_unless k (length (datagram_items d))) same;
       rows = λ lent. ap (λ (k : Check). rows_unless k (datagram_items d) lent) same;
       filled = λ lent. ap (λ (k : Check). filled_unless k (datagram_items d) lent) same;
     }

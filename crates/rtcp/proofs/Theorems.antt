@@ -19,14 +19,14 @@ use Rattle.packet.proofs.Laws.Bools.{or_false}
 use Rattle.packet.proofs.Laws.Checks.{check_passes}
 use Rattle.datagram.specs.declared.Count.{Count}
 use Rattle.datagram.specs.Datagram.{packet_check, packet_items, length_is_bad, datagram_check, datagram_items, DatagramNumber}
-use Rattle.datagram.specs.Answers.{refusal, itemCount}
+use Rattle.datagram.specs.Answers.{refusal, item_count}
 use Rattle.datagram.proofs.Theorems.{datagram_numbered, passes_agreed}
 use Rattle.datagram.proofs.Laws.Walk.{gives_bound}
 use Rattle.datagram.proofs.Laws.Datagram.{packets_roomy}
 use Rattle.datagram.proofs.Laws.Answers.{datagram-passed, datagram-refused, count-of-refused}
 use Rattle.rtcp.specs.declared.cursor.Opened.{Opened}
 use Rattle.rtcp.specs.Cursor.{start, given}
-use Rattle.rtcp.specs.Answers.{item_of, cursorOn}
+use Rattle.rtcp.specs.Answers.{item_of, cursor_on}
 use Rattle.rtcp.specs.Rows.{rows_answer}
 use Rattle.rtcp.proofs.Laws.Answers.{item_refused, item-past, item-there}
 use Rattle.rtcp.proofs.Laws.Refusals.{refusal_number, count-refusals, cursor-refusals}
@@ -36,10 +36,10 @@ use Rattle.rtcp.proofs.Laws.Cursor.{cursor_gives_items}
 -- ---- the numbers that the calls refuse with: 1 to 7, beside them 9 for an index and 10 for an array, and never 0
 
 module _ (reduced : Bool) (d : List ℕ) where
-  pub count_numbered : (r : Refusal) → itemCount reduced d ≡ Count.Refused r → DatagramNumber r.number
+  pub count_numbered : (r : Refusal) → item_count reduced d ≡ Count.Refused r → DatagramNumber r.number
   count_numbered = count-refusals DatagramNumber reduced d (datagram_numbered reduced d)
 
-  pub opened_numbered : (r : Refusal) → cursorOn reduced d ≡ Opened.Refused r → DatagramNumber r.number
+  pub opened_numbered : (r : Refusal) → cursor_on reduced d ≡ Opened.Refused r → DatagramNumber r.number
   opened_numbered = cursor-refusals DatagramNumber reduced d (datagram_numbered reduced d)
 
   pub item_numbered :
@@ -62,12 +62,12 @@ count_refused (Found.Refused r) = Count.Refused r
 -- The count is refused with a number and a place exactly when every index answers with them, and the number is not 9.
 pub refused_everywhere :
     (reduced : Bool) (d : List ℕ) (n p : ℕ)
-    → (itemCount reduced d ≡ Count.Refused (refusal n p))
+    → (item_count reduced d ≡ Count.Refused (refusal n p))
     ↔ (((index : ℕ) → item_of reduced d index ≡ Found.Refused (refusal n p)) × (n ≡ no_such_item → ⊥))
 refused_everywhere reduced d n p = (there, back (datagram_check reduced d) refl)
   where
     there :
-        itemCount reduced d ≡ Count.Refused (refusal n p)
+        item_count reduced d ≡ Count.Refused (refusal n p)
         → ((index : ℕ) → item_of reduced d index ≡ Found.Refused (refusal n p)) × (n ≡ no_such_item → ⊥)
     there e =
         let k : datagram_check reduced d ≡ refused n p = datagram-refused reduced d (refusal n p) e in
@@ -76,7 +76,7 @@ refused_everywhere reduced d n p = (there, back (datagram_check reduced d) refl)
     back :
         (k : Check) → datagram_check reduced d ≡ k
         → ((index : ℕ) → item_of reduced d index ≡ Found.Refused (refusal n p)) × (n ≡ no_such_item → ⊥)
-        → itemCount reduced d ≡ Count.Refused (refusal n p)
+        → item_count reduced d ≡ Count.Refused (refusal n p)
     back passed k h =
         let past : _ = item-past reduced d (length (datagram_items d)) k (omega arith) in
         absurd (h.1 (ap refusal_number (sym (h.0 (length (datagram_items d))) ∙ past)))
@@ -85,7 +85,7 @@ refused_everywhere reduced d n p = (there, back (datagram_check reduced d) refl)
 
 -- An accepted datagram answers 9 at place 0 exactly for the indices not below its count.
 pub nine_past_the_count :
-    (reduced : Bool) (d : List ℕ) (n index : ℕ) → itemCount reduced d ≡ Count.Items n
+    (reduced : Bool) (d : List ℕ) (n index : ℕ) → item_count reduced d ≡ Count.Items n
     → (item_of reduced d index ≡ Found.Refused (refusal no_such_item 0)) ↔ (n ≤ index)
 nine_past_the_count reduced d n index e = (there (ltb index n) refl, back)
   where
@@ -104,7 +104,7 @@ nine_past_the_count reduced d n index e = (there (ltb index n) refl, back)
 -- No index gives an item of a refused datagram.
 pub no_item_of_a_refused :
     (reduced : Bool) (d : List ℕ) (r : Refusal) (index : ℕ) (x : Placed)
-    → itemCount reduced d ≡ Count.Refused r → item_of reduced d index ≡ Found.Item x → ⊥
+    → item_count reduced d ≡ Count.Refused r → item_of reduced d index ≡ Found.Item x → ⊥
 no_item_of_a_refused reduced d r index x e f =
     let g : _ = item_refused reduced d index r.number r.place (datagram-refused reduced d r e) in
     let z : ◌≡◌ {A = ℕ} 0 1 = cc in
@@ -112,7 +112,7 @@ no_item_of_a_refused reduced d r index x e f =
 
 -- Every item takes a word of its datagram, of which there are at most 512.
 pub count_bound :
-    (reduced : Bool) (d : List ℕ) (n : ℕ) → itemCount reduced d ≡ Count.Items n
+    (reduced : Bool) (d : List ℕ) (n : ℕ) → item_count reduced d ≡ Count.Items n
     → (4 * n ≤ length d) × (length d ≤ 2048)
 unfolding datagram_check datagram_items
 count_bound reduced d n e =
@@ -128,7 +128,7 @@ count_bound reduced d n e =
 
 -- From the start, a cursor gives item 0, 1, .. count − 1 in turn and then the end, however often it is asked.
 pub cursor-in_turn :
-    (reduced : Bool) (d : List ℕ) (n k : ℕ) → itemCount reduced d ≡ Count.Items n → n ≤ k
+    (reduced : Bool) (d : List ℕ) (n k : ℕ) → item_count reduced d ≡ Count.Items n → n ≤ k
     → given k d start ≡ datagram_items d
 cursor-in_turn reduced d n k e h =
     let m : _ = datagram-passed reduced d n e in

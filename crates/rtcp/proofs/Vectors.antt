@@ -16,7 +16,7 @@ use Rattle.packet.specs.Settings.{settings_at}
 use Rattle.datagram.specs.declared.Count.{Count}
 use Rattle.datagram.specs.Walk.{walking, walk}
 use Rattle.datagram.specs.Datagram.{packet_check, packet_items, datagram_check, datagram_items}
-use Rattle.datagram.specs.Answers.{refusal, itemCount}
+use Rattle.datagram.specs.Answers.{refusal, item_count}
 use Rattle.rtcp.specs.Answers.{item_of, pick}
 
 -- an RR of 8 bytes with count 0
@@ -74,17 +74,17 @@ padded_bye = 0xA1 ∷ 0xCB ∷ 0 ∷ 2 ∷ 0 ∷ 0 ∷ 0 ∷ 10 ∷ 0 ∷ 0 ∷ 
 -- behind it; a padded BYE behind P5. Each is computed from the definitions.
 vectors :
     (reduced : Bool)
-    → (itemCount reduced [] ≡ Count.Refused (refusal bad_length 0))
-    × (itemCount reduced rr ≡ Count.Items 0)
+    → (item_count reduced [] ≡ Count.Refused (refusal bad_length 0))
+    × (item_count reduced rr ≡ Count.Items 0)
     × (item_of reduced rr 0 ≡ Found.Refused (refusal no_such_item 0))
     × (item_of reduced (rr ++ p5) 0 ≡ Found.Item (record { place = 16; item = Item.Report p5_report }))
     × (item_of reduced (rr ++ p3) 0 ≡ Found.Item (record { place = 8; item = Item.Settings p3_settings }))
-    × (itemCount reduced (rr ++ p5 ++ p3) ≡ Count.Items 2)
+    × (item_count reduced (rr ++ p5 ++ p3) ≡ Count.Items 2)
     × (item_of reduced (rr ++ p5 ++ p3) 1 ≡ Found.Item (record { place = 48; item = Item.Settings p3_settings }))
-    × (itemCount reduced padded_bye ≡ Count.Refused (refusal bad_padding 0))
-    × (itemCount false p5 ≡ Count.Refused (refusal bad_first 0))
+    × (item_count reduced padded_bye ≡ Count.Refused (refusal bad_padding 0))
+    × (item_count false p5 ≡ Count.Refused (refusal bad_first 0))
     × (item_of true p5 0 ≡ Found.Item (record { place = 8; item = Item.Report p5_report }))
     × (item_of true (p3 ++ p5) 0 ≡ Found.Item (record { place = 0; item = Item.Settings p3_settings }))
     × (item_of true (p5 ++ padded_bye) 1 ≡ Found.Item (record { place = 44; item = Item.Farewell 10 }))
-unfolding itemCount item_of pick datagram_check datagram_items walk walking packet_check packet_items head_check padding_is_bad content kind_of first_is_bad block_check block_items report_at settings_at be16 be32 be64 rr p5 p5_report p3 p3_settings padded_bye
+unfolding item_count item_of pick datagram_check datagram_items walk walking packet_check packet_items head_check padding_is_bad content kind_of first_is_bad block_check block_items report_at settings_at be16 be32 be64 rr p5 p5_report p3 p3_settings padded_bye
 vectors reduced = (refl, refl, refl, refl, refl, refl, refl, refl, refl, refl, refl, refl)

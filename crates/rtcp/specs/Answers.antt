@@ -19,18 +19,18 @@ unfoldable pub pick : List Placed → ℕ → Found
 pick items index =
     cond (ltb index (length items)) (Found.Item (get_or items index nothing)) (Found.Refused (refusal no_such_item 0))
 
-abbrev pub itemUnless : Check → List Placed → ℕ → Found
-itemUnless passed items index = pick items index
-itemUnless (refused number place) items index = Found.Refused (refusal number place)
+abbrev pub item_unless : Check → List Placed → ℕ → Found
+item_unless passed items index = pick items index
+item_unless (refused number place) items index = Found.Refused (refusal number place)
 
 -- the item at an index, or the datagram's refusal, which answers at any index, or 9
 unfoldable pub item_of : Bool → List ℕ → ℕ → Found
-item_of reduced d index = itemUnless (datagram_check reduced d) (datagram_items d) index
+item_of reduced d index = item_unless (datagram_check reduced d) (datagram_items d) index
 
 -- a cursor before the first item, and how many items there are, or the datagram's refusal
-abbrev pub cursorUnless : Check → ℕ → Opened
-cursorUnless passed items = Opened.Items items start
-cursorUnless (refused number place) items = Opened.Refused (refusal number place)
+abbrev pub cursor_unless : Check → ℕ → Opened
+cursor_unless passed items = Opened.Items items start
+cursor_unless (refused number place) items = Opened.Refused (refusal number place)
 
-unfoldable pub cursorOn : Bool → List ℕ → Opened
-cursorOn reduced d = cursorUnless (datagram_check reduced d) (length (datagram_items d))
+unfoldable pub cursor_on : Bool → List ℕ → Opened
+cursor_on reduced d = cursor_unless (datagram_check reduced d) (length (datagram_items d))

@@ -12,7 +12,7 @@ use Rattle.packet_checks.specs.declared.block.Block.{Block}
 use Rattle.packet.specs.declared.bytes.Source.{Source}
 use Rattle.packet.specs.Report.{report_at}
 use Rattle.packet.specs.Settings.{settings_item}
-use Rattle.packet.specs.Answers.{packetIs, blockIs, source_is}
+use Rattle.packet.specs.Answers.{packet_is, block_is, source_is}
 use Rattle.datagram.specs.Datagram.{source_items, blocks_items, packets_items}
 use Rattle.rtcp.specs.declared.cursor.State.{State}
 use Rattle.rtcp.specs.declared.cursor.Cursor.{Cursor}
@@ -42,12 +42,12 @@ block_step sender at stop next (Block.Refused number) r = Advance.End
 
 -- one step, over a packet's head, a source or a block; behind the last of them comes the next packet
 unfoldable pub advance : List ℕ → State → Advance
-advance d (State.Packet p) = packet_step d p (packetIs d p)
+advance d (State.Packet p) = packet_step d p (packet_is d p)
 advance d (State.Sources at stop next) =
     cond (leb stop at) (Advance.Onward (State.Packet next)) (source_step at stop next (source_is d stop at))
 advance d (State.Blocks sender at stop next) =
     cond (leb stop at) (Advance.Onward (State.Packet next))
-    (block_step sender at stop next (blockIs d stop at) (report_at d sender at))
+    (block_step sender at stop next (block_is d stop at) (report_at d sender at))
 
 -- What is left to step over. Every step that gives no item makes it smaller: a step over a block by its bytes; the step
 -- from a packet's last part to the next packet by one; a step into a packet since its parts lie in it, and it counts

@@ -5,28 +5,28 @@ use Rattle.idms.specs.declared.Refusal.{Refusal}
 use Rattle.idms.specs.declared.Found.{Found}
 use Rattle.refusals.specs.Refusals.{bad_first}
 use Rattle.datagram.specs.declared.Count.{Count}
-use Rattle.datagram.specs.Answers.{refusal, itemCount}
+use Rattle.datagram.specs.Answers.{refusal, item_count}
 use Rattle.rtcp.specs.declared.cursor.Opened.{Opened}
-use Rattle.rtcp.specs.Answers.{item_of, cursorOn}
+use Rattle.rtcp.specs.Answers.{item_of, cursor_on}
 use Rattle.rtcp.specs.Rows.{rows_answer, rows_after}
 
 -- the datagram gets 4 where reduced size was not agreed
 abbrev pub NeedsReducedSize : List ℕ → Type 0
-NeedsReducedSize d = itemCount false d ≡ Count.Refused (refusal bad_first 0)
+NeedsReducedSize d = item_count false d ≡ Count.Refused (refusal bad_first 0)
 
 -- each call answers the same whether or not reduced size was agreed, and leaves the same in the lent array
 pub record AnswersAlike (d : List ℕ) : Type 0 where
-  pub count : itemCount true d ≡ itemCount false d
+  pub count : item_count true d ≡ item_count false d
   pub item : (index : ℕ) → item_of true d index ≡ item_of false d index
-  pub cursor : cursorOn true d ≡ cursorOn false d
+  pub cursor : cursor_on true d ≡ cursor_on false d
   pub rows : (lent : List ℕ) → rows_answer true d lent ≡ rows_answer false d lent
   pub filled : (lent : List ℕ) → rows_after true d lent ≡ rows_after false d lent
 
 -- no call is refused with 4 where reduced size was agreed
 pub record NeverFour (d : List ℕ) : Type 0 where
-  pub count : (r : Refusal) → itemCount true d ≡ Count.Refused r → r.number ≡ bad_first → ⊥
+  pub count : (r : Refusal) → item_count true d ≡ Count.Refused r → r.number ≡ bad_first → ⊥
   pub item : (index : ℕ) (r : Refusal) → item_of true d index ≡ Found.Refused r → r.number ≡ bad_first → ⊥
-  pub cursor : (r : Refusal) → cursorOn true d ≡ Opened.Refused r → r.number ≡ bad_first → ⊥
+  pub cursor : (r : Refusal) → cursor_on true d ≡ Opened.Refused r → r.number ≡ bad_first → ⊥
   pub rows : (lent : List ℕ) (r : Refusal) → rows_answer true d lent ≡ Count.Refused r → r.number ≡ bad_first → ⊥
 
 -- the request, of every datagram

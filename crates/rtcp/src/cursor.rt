@@ -3,7 +3,7 @@ ghost use Rattle.std.specs.Prelude.{◌≡◌, true, ◌+◌, ◌<◌, length, g
 ghost use Rattle.packet.specs.Checks.{passed};
 ghost use Rattle.datagram.specs.Datagram.{datagram_check, datagram_items};
 ghost use Rattle.rtcp.specs.Cursor.{advance, next_of, start};
-ghost use Rattle.rtcp.specs.Answers.{nothing, cursorOn};
+ghost use Rattle.rtcp.specs.Answers.{nothing, cursor_on};
 
 use datagram::{Count, count_items};
 use idms::{Item, Placed, Refusal};
@@ -12,12 +12,12 @@ use packet::{
 };
 
 // Where a walk over a datagram stands. Only `open_datagram`, `first_cursor` and `next_item` make one.
-#[derive(Drop)]
+#[derive(Clone, Copy)]
 pub struct Cursor {
     state: State,
 }
 
-#[derive(Drop)]
+#[derive(Clone, Copy)]
 pub(crate) enum State {
     // Before the packet at a place.
     Packet(usize),
@@ -28,21 +28,21 @@ pub(crate) enum State {
 }
 
 // How many items a datagram has and a cursor before the first, or the datagram's refusal.
-#[derive(Drop)]
+#[derive(Clone, Copy)]
 pub enum Opened {
     Items(usize, Cursor),
     Refused(Refusal),
 }
 
 // What a cursor gives: an item and the cursor behind it, or the end.
-#[derive(Drop)]
+#[derive(Clone, Copy)]
 pub enum Step {
     Item(Placed, Cursor),
     End,
 }
 
 // One step of a cursor: past an item, past something that gives none, or to the end.
-#[derive(Drop)]
+#[derive(Clone, Copy)]
 pub(crate) enum Advance {
     Item(Placed, State),
     Onward(State),
@@ -161,7 +161,7 @@ pub fn first_cursor() -> Cursor
 
 // Checks a datagram, and puts a cursor before its first item. `reduced` says whether reduced size was agreed.
 pub fn open_datagram(d: &[u8], reduced: bool) -> Opened
-    ensures { result ≡ cursorOn reduced d.now }
+    ensures { result ≡ cursor_on reduced d.now }
 {
     match count_items(d, reduced) {
         Count::Refused(r) => Opened::Refused(r),

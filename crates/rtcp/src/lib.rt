@@ -4,6 +4,8 @@
 // for the datagram that it was opened on; nothing ties it to that one, and passed with another it gives what it can
 // read there, also where that datagram is refused. `first_cursor` gives one for any datagram, for a caller that has
 // counted the items.
+#![tactic(auto)]
+
 mod cursor;
 mod item;
 mod rows;

@@ -17,7 +17,7 @@ use Rattle.sdp.specs.declared.SyncGroup.{SyncGroup}
 use Rattle.sdp.specs.Digits.{value_of, digits_of, has_leading_zero, without_leading_zeros}
 use Rattle.sdp.specs.Line.{sdp_line, digits_in, greatest_group, most_digits}
 use Rattle.sdp.specs.Line.{group_line, group_message, line_without_leading_zeros}
-use Rattle.sdp.specs.Answers.{keepsGrammar, groupIn}
+use Rattle.sdp.specs.Answers.{keeps_grammar, group_in}
 use Rattle.sdp.specs.Grammar.{IsSdpLine, GivesGroup, LineSays}
 use Rattle.sdp.proofs.Laws.Digits.{
   length_digits,
@@ -44,26 +44,26 @@ use Rattle.sdp.proofs.Laws.Line.{
 -- ---- the grammar
 
 group_bad :
-    (d : List ℕ) → keepsGrammar d ≡ true
+    (d : List ℕ) → keeps_grammar d ≡ true
     → (most_digits < length (digits_in d)) ⊎ (greatest_group < value_of (digits_in d))
-    → groupIn d ≡ SyncGroup.Refused bad_group
+    → group_in d ≡ SyncGroup.Refused bad_group
 group_bad d e (inl long) = group-long d e (lt-ltb most_digits (length (digits_in d)) long)
 group_bad d e (inr great) = go (ltb most_digits (length (digits_in d))) refl
   where
-    go : (t : Bool) → ltb most_digits (length (digits_in d)) ≡ t → groupIn d ≡ SyncGroup.Refused bad_group
+    go : (t : Bool) → ltb most_digits (length (digits_in d)) ≡ t → group_in d ≡ SyncGroup.Refused bad_group
     go true many = group-long d e many
     go false few = group_great d e few great
 
 -- Every answer of the reader says what is so.
-pub read_says : (d : List ℕ) → LineSays d (groupIn d)
-read_says d = go (keepsGrammar d) refl (ltb most_digits (length digits)) refl (ltb greatest_group (value_of digits)) refl
+pub read_says : (d : List ℕ) → LineSays d (group_in d)
+read_says d = go (keeps_grammar d) refl (ltb most_digits (length digits)) refl (ltb greatest_group (value_of digits)) refl
   where
     digits : List ℕ
     digits = digits_in d
 
     go :
-        (t : Bool) → keepsGrammar d ≡ t → (l : Bool) → ltb most_digits (length digits) ≡ l
-        → (g : Bool) → ltb greatest_group (value_of digits) ≡ g → LineSays d (groupIn d)
+        (t : Bool) → keeps_grammar d ≡ t → (l : Bool) → ltb most_digits (length digits) ≡ l
+        → (g : Bool) → ltb greatest_group (value_of digits) ≡ g → LineSays d (group_in d)
     go false t l m g h =
         subst (LineSays d) (sym (group_not_kept d t))
         (inl (refl, λ others line. false≢true (sym t ∙ (line_digits d others line).0)))
@@ -79,7 +79,7 @@ read_says d = go (keepsGrammar d) refl (ltb most_digits (length digits)) refl (l
         subst (LineSays d) (sym (group-read d t m low)) (digits, kept_line d t, (few, refl, low))
 
 -- No other answer does: what an answer says determines it.
-pub says_read : (d : List ℕ) (answer : SyncGroup) → LineSays d answer → answer ≡ groupIn d
+pub says_read : (d : List ℕ) (answer : SyncGroup) → LineSays d answer → answer ≡ group_in d
 says_read d (SyncGroup.Group group) (digits, line, (few, spelt, low)) =
     let kept : _ = line_digits d digits line in
     let number : value_of (digits_in d) ≡ group = ap value_of kept.1 ∙ spelt in
@@ -88,9 +88,9 @@ says_read d (SyncGroup.Group group) (digits, line, (few, spelt, low)) =
     ∙ sym
     (group-read d kept.0 (le-ltb most_digits (length (digits_in d)) (omega (arith, count, few)))
     (omega (arith, number, low)))
-says_read d (SyncGroup.Refused number) (inl (e, none)) = go (keepsGrammar d) refl
+says_read d (SyncGroup.Refused number) (inl (e, none)) = go (keeps_grammar d) refl
   where
-    go : (t : Bool) → keepsGrammar d ≡ t → SyncGroup.Refused number ≡ groupIn d
+    go : (t : Bool) → keeps_grammar d ≡ t → SyncGroup.Refused number ≡ group_in d
     go true t = absurd (none (digits_in d) (kept_line d t))
     go false t = ap SyncGroup.Refused e ∙ sym (group_not_kept d t)
 says_read d (SyncGroup.Refused number) (inr (e, (digits, line, bad))) =
@@ -109,7 +109,7 @@ read-once d a b h k =
 
 -- The reader refuses with 21 or 22 alone.
 pub read_numbered :
-    (d : List ℕ) (number : ℕ) → groupIn d ≡ SyncGroup.Refused number → (number ≡ bad_line) ⊎ (number ≡ bad_group)
+    (d : List ℕ) (number : ℕ) → group_in d ≡ SyncGroup.Refused number → (number ≡ bad_line) ⊎ (number ≡ bad_group)
 read_numbered d number e = go (subst (LineSays d) e (read_says d))
   where
     go : LineSays d (SyncGroup.Refused number) → (number ≡ bad_line) ⊎ (number ≡ bad_group)
@@ -137,7 +137,7 @@ written_digits group h =
       no_leading_zero ten,
     )
 
-pub line_read : (group : ℕ) → group ≤ greatest_group → groupIn (group_line group) ≡ SyncGroup.Group group
+pub line_read : (group : ℕ) → group ≤ greatest_group → group_in (group_line group) ≡ SyncGroup.Group group
 line_read group h =
     let w : _ = written_digits group h in
     sym (says_read (group_line group) (SyncGroup.Group group) (_, w.0, w.1))
@@ -145,10 +145,10 @@ line_read group h =
 -- Whatever was written, and wherever: those bytes are read as the number.
 pub written_read :
     (group count : ℕ) (buf buf' : List ℕ) → WroteMessage (group_message group) buf (Written.Bytes count) buf'
-    → groupIn (take count buf') ≡ SyncGroup.Group group
+    → group_in (take count buf') ≡ SyncGroup.Group group
 written_read group count buf buf' w =
     let front : _ = written_front (group_message group) buf buf' count w in
-    ap groupIn front.1 ∙ line_read group (ltb-false greatest_group group front.0)
+    ap group_in front.1 ∙ line_read group (ltb-false greatest_group group front.0)
 
 -- Every number up to the greatest is written where the buffer is long enough, and 35 bytes always are.
 pub group-written :
@@ -168,13 +168,13 @@ pub written_apart :
     → take m buf' ≡ take n other' → a ≡ b
 written_apart a b m n buf buf' other other' w v e =
     let same : SyncGroup.Group a ≡ SyncGroup.Group b =
-    sym (written_read a m buf buf' w) ∙ ap groupIn e ∙ written_read b n other other' v in
+    sym (written_read a m buf buf' w) ∙ ap group_in e ∙ written_read b n other other' v in
     cc
 
 -- ---- read, then written
 
 -- The line of the number that was read is that line with its leading zeros gone.
-pub line_again : (d : List ℕ) (group : ℕ) → groupIn d ≡ SyncGroup.Group group → group_line group ≡ line_without_leading_zeros d
+pub line_again : (d : List ℕ) (group : ℕ) → group_in d ≡ SyncGroup.Group group → group_line group ≡ line_without_leading_zeros d
 line_again d group e =
     let says : LineSays d (SyncGroup.Group group) = subst (LineSays d) e (read_says d) in
     let digits = says.0 in
@@ -187,7 +187,7 @@ line_again d group e =
 -- What is written of the number that a line was read as, into a buffer that is long enough: that line with its leading
 -- zeros gone, and behind it what was there.
 pub read-written :
-    (d : List ℕ) (group : ℕ) (buf buf' : List ℕ) (answer : Written) → groupIn d ≡ SyncGroup.Group group
+    (d : List ℕ) (group : ℕ) (buf buf' : List ℕ) (answer : Written) → group_in d ≡ SyncGroup.Group group
     → length (line_without_leading_zeros d) ≤ length buf → WroteMessage (group_message group) buf answer buf'
     → (answer ≡ Written.Bytes (length (line_without_leading_zeros d)))
     × (buf' ≡ line_without_leading_zeros d ++ drop (length (line_without_leading_zeros d)) buf)
@@ -203,7 +203,7 @@ read-written d group buf buf' answer e h w =
 
 -- So the very bytes of a line that had no leading zeros.
 pub read_written_same :
-    (d : List ℕ) (group : ℕ) (buf buf' : List ℕ) (answer : Written) → groupIn d ≡ SyncGroup.Group group
+    (d : List ℕ) (group : ℕ) (buf buf' : List ℕ) (answer : Written) → group_in d ≡ SyncGroup.Group group
     → has_leading_zero (digits_in d) ≡ false → length d ≤ length buf → WroteMessage (group_message group) buf answer buf'
     → (answer ≡ Written.Bytes (length d)) × (buf' ≡ d ++ drop (length d) buf)
 read_written_same d group buf buf' answer e none h w =

@@ -7,10 +7,10 @@ use Rattle.buffer.specs.Buffer.{written}
 use Rattle.sdp.specs.declared.SyncGroup.{SyncGroup}
 use Rattle.sdp.specs.Digits.{is_digit, are_digits, value_of, digits_of, without_leading_zeros}
 use Rattle.sdp.specs.Line.{ascii, group_line, group_message}
-use Rattle.sdp.specs.Answers.{starts_with, keepsGrammar, groupIn}
+use Rattle.sdp.specs.Answers.{starts_with, keeps_grammar, group_in}
 
-pub example_read : groupIn (ascii "a=rtcp-idms:sync-group=42\r\n") ≡ SyncGroup.Group 42
-unfolding is_digit are_digits value_of starts_with keepsGrammar groupIn
+pub example_read : group_in (ascii "a=rtcp-idms:sync-group=42\r\n") ≡ SyncGroup.Group 42
+unfolding is_digit are_digits value_of starts_with keeps_grammar group_in
 example_read = refl
 
 pub example_written : group_line 42 ≡ ascii "a=rtcp-idms:sync-group=42\r\n"
@@ -25,24 +25,24 @@ pub greatest-written : group_line 4294967294 ≡ ascii "a=rtcp-idms:sync-group=4
 unfolding digits_of without_leading_zeros
 greatest-written = refl
 
-pub zeros-read : groupIn (ascii "a=rtcp-idms:sync-group=0000000042\r\n") ≡ SyncGroup.Group 42
-unfolding is_digit are_digits value_of starts_with keepsGrammar groupIn
+pub zeros-read : group_in (ascii "a=rtcp-idms:sync-group=0000000042\r\n") ≡ SyncGroup.Group 42
+unfolding is_digit are_digits value_of starts_with keeps_grammar group_in
 zeros-read = refl
 
-pub reserved_refused : groupIn (ascii "a=rtcp-idms:sync-group=4294967295\r\n") ≡ SyncGroup.Refused 22
-unfolding is_digit are_digits value_of starts_with keepsGrammar groupIn
+pub reserved_refused : group_in (ascii "a=rtcp-idms:sync-group=4294967295\r\n") ≡ SyncGroup.Refused 22
+unfolding is_digit are_digits value_of starts_with keeps_grammar group_in
 reserved_refused = refl
 
-pub eleven_zeros_refused : groupIn (ascii "a=rtcp-idms:sync-group=00000000000\r\n") ≡ SyncGroup.Refused 22
-unfolding is_digit are_digits value_of starts_with keepsGrammar groupIn
+pub eleven_zeros_refused : group_in (ascii "a=rtcp-idms:sync-group=00000000000\r\n") ≡ SyncGroup.Refused 22
+unfolding is_digit are_digits value_of starts_with keeps_grammar group_in
 eleven_zeros_refused = refl
 
-pub line_feed_refused : groupIn (ascii "a=rtcp-idms:sync-group=42\n") ≡ SyncGroup.Refused 21
-unfolding is_digit are_digits value_of starts_with keepsGrammar groupIn
+pub line_feed_refused : group_in (ascii "a=rtcp-idms:sync-group=42\n") ≡ SyncGroup.Refused 21
+unfolding is_digit are_digits value_of starts_with keeps_grammar group_in
 line_feed_refused = refl
 
-pub nothing_refused : groupIn [] ≡ SyncGroup.Refused 21
-unfolding starts_with keepsGrammar groupIn
+pub nothing_refused : group_in [] ≡ SyncGroup.Refused 21
+unfolding starts_with keeps_grammar group_in
 nothing_refused = refl
 
 -- the writer, whatever the buffer

@@ -13,24 +13,24 @@ starts_with (b ∷ bytes) [] = false
 starts_with (b ∷ bytes) (x ∷ d) = eqb x b && starts_with bytes d
 
 -- the grammar but for the count of digits, which are one or more
-unfoldable pub keepsGrammar : List ℕ → Bool
-keepsGrammar d =
+unfoldable pub keeps_grammar : List ℕ → Bool
+keeps_grammar d =
     ltb (length prefix + length crlf) (length d)
     && starts_with prefix d
     && starts_with crlf (drop (length d - length crlf) d)
     && are_digits (digits_in d)
 
 -- more than ten digits
-abbrev pub areTooMany : List ℕ → Bool
-areTooMany digits = ltb most_digits (length digits)
+abbrev pub are_too_many : List ℕ → Bool
+are_too_many digits = ltb most_digits (length digits)
 
 -- refusal 22, of digits: more than ten, or a value above the greatest group number
-abbrev pub isBadGroup : List ℕ → Bool
-isBadGroup digits = areTooMany digits || ltb greatest_group (value_of digits)
+abbrev pub is_bad_group : List ℕ → Bool
+is_bad_group digits = are_too_many digits || ltb greatest_group (value_of digits)
 
 -- The group number of a line: 21 where the grammar is not kept, then 22.
-unfoldable pub groupIn : List ℕ → SyncGroup
-groupIn d =
-    cond (keepsGrammar d)
-    (cond (isBadGroup (digits_in d)) (SyncGroup.Refused bad_group) (SyncGroup.Group (value_of (digits_in d))))
+unfoldable pub group_in : List ℕ → SyncGroup
+group_in d =
+    cond (keeps_grammar d)
+    (cond (is_bad_group (digits_in d)) (SyncGroup.Refused bad_group) (SyncGroup.Group (value_of (digits_in d))))
     (SyncGroup.Refused bad_line)

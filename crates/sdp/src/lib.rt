@@ -1,16 +1,18 @@
 // The line of a site file that carries a group number: `a=rtcp-idms:sync-group=42` CR LF (RFC 7272, section 10).
+#![tactic(auto)]
+
 ghost use Rattle.std.specs.Prelude.{◌≡◌, ◌+◌, ◌-◌, ◌≤◌, ◌<◌, true, ◌++◌, length, drop};
 ghost use Rattle.std.proofs.Math.Seq.{paste, slice};
 ghost use Rattle.buffer.specs.Buffer.{WroteMessage};
 ghost use Rattle.sdp.specs.Digits.{is_digit, are_digits, value_of, digits_of, without_leading_zeros};
 ghost use Rattle.sdp.specs.Line.{most_digits, sdp_line, group_message};
-ghost use Rattle.sdp.specs.Answers.{starts_with, keepsGrammar, groupIn};
+ghost use Rattle.sdp.specs.Answers.{starts_with, keeps_grammar, group_in};
 
 use buffer::Written;
 use refusals::{BAD_GROUP, BAD_LINE, SHORT_BUFFER};
 
 // What the reader answers: the group number, or the number of its refusal.
-#[derive(Drop)]
+#[derive(Clone, Copy)]
 pub enum SyncGroup {
     Group(u32),
     Refused(u64),
@@ -83,7 +85,7 @@ fn value_at(line: &[u8], from: usize, to: usize) -> u64
 
 // Whether a line keeps the grammar, however many digits it has.
 fn keeps_grammar(line: &[u8]) -> bool
-    ensures { result ≡ keepsGrammar line.now }
+    ensures { result ≡ keeps_grammar line.now }
 {
     if line.len() <= PREFIX.len() + CRLF.len() {
         return false;
@@ -100,7 +102,7 @@ fn keeps_grammar(line: &[u8]) -> bool
 
 // Reads the group number of a line, which is the whole slice, or refuses with 21, then 22.
 pub fn read_sync_group(line: &[u8]) -> SyncGroup
-    ensures { result ≡ groupIn line.now }
+    ensures { result ≡ group_in line.now }
 {
     let bad_line = !keeps_grammar(line);
     let too_many = PREFIX.len() + MOST_DIGITS + CRLF.len() < line.len();

@@ -1,4 +1,6 @@
 // How late a settings packet asks a loudspeaker to play, at the loudspeaker's own reading (document 02, E10).
+#![tactic(auto)]
+
 ghost use Rattle.std.specs.Prelude.{◌≡◌, ◌*◌, ◌^◌, ◌≤◌};
 ghost use Rattle.register.specs.Choosing.{delay_between, lateness};
 ghost use Rattle.settings_target.specs.TargetLateness.{target_is_badly_presented, target_checks, lateness_answered};
@@ -11,7 +13,7 @@ use times::{is_aged, is_far, ntp_age, rtp_age, settings_are_badly_presented, set
 
 // A refusal's number or 0, and the lateness, which is 0 after a refusal.
 #[repr(C)]
-#[derive(Drop)]
+#[derive(Clone, Copy)]
 pub struct LatenessAnswered {
     pub number: u64,
     pub lateness: i64,

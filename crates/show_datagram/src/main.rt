@@ -1,6 +1,8 @@
 // Reads a datagram from standard input and prints its items, or its refusal. The argument `--reduced-size` says that
 // reduced size was agreed with its sender. With the argument `records` it runs the cases that standard input holds as
 // records.
+#![tactic(auto)]
+
 mod print;
 mod records;
 

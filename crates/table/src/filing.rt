@@ -14,7 +14,7 @@ use register::{Member, Reading, Record};
 
 // A call's number; the place and the member that stands there afterwards, which is the one from before where the call
 // changes nothing; and the word of places held.
-#[derive(Drop)]
+#[derive(Clone, Copy)]
 pub struct Filing {
     pub number: u64,
     pub place: usize,

@@ -1,4 +1,6 @@
 // The member table of one synchronization group: 64 places, and one word that marks those held.
+#![tactic(auto)]
+
 mod empty;
 mod filing;
 mod search;
@@ -29,7 +31,7 @@ use search::{is_held_by, member_of};
 // A table for one group, media source and clock rate. The lowest bit of `held` marks the first place. The fields are
 // public so that a caller can store a filing in the table where it lies; every call answers every value that they have.
 #[repr(C)]
-#[derive(Drop)]
+#[derive(Clone, Copy)]
 pub struct Table {
     pub group: u32,
     pub media: u32,
@@ -40,21 +42,21 @@ pub struct Table {
 
 // A refusal's number, or 0 that there is none, and the table afterwards.
 #[repr(C)]
-#[derive(Drop)]
+#[derive(Clone, Copy)]
 pub struct Answered {
     pub number: u64,
     pub table: Table,
 }
 
 // What choosing answers, and the table as it was.
-#[derive(Drop)]
+#[derive(Clone, Copy)]
 pub struct Chosen {
     pub choice: Choice,
     pub table: Table,
 }
 
 // What checking a settings packet answers, and the table as it was.
-#[derive(Drop)]
+#[derive(Clone, Copy)]
 pub struct SettingsChecked {
     pub verdict: Verdict,
     pub table: Table,
@@ -62,14 +64,14 @@ pub struct SettingsChecked {
 
 // The member at a place: `held` is 1 and `member` the member, or `held` is 0 and `member` all zeros.
 #[repr(C)]
-#[derive(Drop)]
+#[derive(Clone, Copy)]
 pub struct Place {
     pub held: u32,
     pub member: Member,
 }
 
 // What became of an item.
-#[derive(Drop)]
+#[derive(Clone, Copy)]
 pub enum Outcome {
     // A report or a farewell: the number of its call, 0 where that was accepted.
     Number(u64),
@@ -78,7 +80,7 @@ pub enum Outcome {
 }
 
 // What became of an item, and the table afterwards.
-#[derive(Drop)]
+#[derive(Clone, Copy)]
 pub struct Taken {
     pub outcome: Outcome,
     pub table: Table,

@@ -1,4 +1,6 @@
 // Times that wrap: presentation, ages, and the checks on them. Every function takes any numbers.
+#![tactic(auto)]
+
 ghost use Rattle.std.specs.Prelude.{◌≡◌, ◌+◌, ◌^◌, ◌≤◌};
 ghost use Rattle.times.specs.Times.{unwrapped, expanded, delay, ntp_age, rtp_age};
 ghost use Rattle.times.specs.Times.{settings_delay, is_far, is_aged, is_badly_presented, is_fresh};
@@ -28,7 +30,7 @@ pub fn rtp_age(r: u32, rtp: u32) -> u32
 }
 
 // A presentation before wrapping, base + on: it can have 65 bits.
-#[derive(Drop)]
+#[derive(Clone, Copy)]
 struct Unwrapped {
     base: u64,
     on: u64,

@@ -1,5 +1,7 @@
 // Runs bench cases of the two writers: the messages of P5 and P3, the refusals and their order, and the bytes that a
 // call must leave alone.
+#![tactic(auto)]
+
 mod print;
 
 use crate::print::{print_answer, print_words};

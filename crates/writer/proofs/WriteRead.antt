@@ -19,7 +19,7 @@ use Rattle.packet.specs.Packet.{padding_is_bad, content, head_check}
 use Rattle.packet.specs.Report.{block_check, report_at, block_items}
 use Rattle.packet.specs.Settings.{settings_at}
 use Rattle.datagram.specs.Datagram.{packet_check, packet_items, datagram_check, datagram_items}
-use Rattle.datagram.specs.Answers.{itemCount}
+use Rattle.datagram.specs.Answers.{item_count}
 use Rattle.rtcp.specs.Answers.{item_of, pick}
 use Rattle.writer.specs.Messages.{bytes_of, report_words, settings_words}
 use Rattle.writer.specs.Messages.{report_is_unwritable, report_message, settings_message}
@@ -58,7 +58,7 @@ report_in r p =
 
 walk-report :
     (r : Report) (p : Bool) → ReadBack (bytes_of (report_words (report_in r p))) 8 (Item.Report (report_back r p))
-unfolding report_in report_back itemCount item_of pick datagram_check datagram_items walk walking packet_check packet_items
+unfolding report_in report_back item_count item_of pick datagram_check datagram_items walk walking packet_check packet_items
     head_check padding_is_bad content kind_of first_is_bad block_check block_items report_at be16 be32 be64
 walk-report r true =
     record { behind_an_rr = λ reduced ssrc. (refl, refl); alone = (refl, refl); alone-refused = refl }
@@ -112,7 +112,7 @@ settings_back s =
     }
 
 walk-settings : (s : Settings) → ReadBack (bytes_of (settings_words s)) 0 (Item.Settings (settings_back s))
-unfolding settings_back itemCount item_of pick datagram_check datagram_items walk walking packet_check packet_items
+unfolding settings_back item_count item_of pick datagram_check datagram_items walk walking packet_check packet_items
     head_check padding_is_bad content kind_of first_is_bad settings_at be16 be32 be64
 walk-settings s =
     record { behind_an_rr = λ reduced ssrc. (refl, refl); alone = (refl, refl); alone-refused = refl }

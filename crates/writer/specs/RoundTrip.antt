@@ -10,7 +10,7 @@ use Rattle.refusals.specs.Refusals.{bad_first}
 use Rattle.datagram.specs.declared.Count.{Count}
 use Rattle.packet.specs.Bytes.{byte}
 use Rattle.packet.specs.Report.{block_p}
-use Rattle.datagram.specs.Answers.{refusal, itemCount}
+use Rattle.datagram.specs.Answers.{refusal, item_count}
 use Rattle.rtcp.specs.Answers.{item_of}
 use Rattle.writer.specs.Messages.{bytes_of}
 
@@ -20,7 +20,7 @@ behind_rr ssrc bytes = bytes_of (0x80C90001 ∷ ssrc ∷ []) ++ bytes
 
 -- exactly one item is read from a datagram, and it is this one; `reduced` says whether reduced size was agreed
 abbrev pub GivesOne : Bool → List ℕ → Placed → Type 0
-GivesOne reduced d x = (itemCount reduced d ≡ Count.Items 1) × (item_of reduced d 0 ≡ Found.Item x)
+GivesOne reduced d x = (item_count reduced d ≡ Count.Items 1) × (item_of reduced d 0 ≡ Found.Item x)
 
 -- What is read of a packet that a writer wrote: one item, `offset` bytes behind the packet's start. Behind the RR it is
 -- read whether or not reduced size was agreed; alone it is read where that was agreed, and else refused with 4.
@@ -28,7 +28,7 @@ pub record ReadBack (bytes : List ℕ) (offset : ℕ) (x : Item) : Type 0 where
   pub behind_an_rr :
       (reduced : Bool) (ssrc : ℕ) → GivesOne reduced (behind_rr ssrc bytes) (record { place = 8 + offset; item = x })
   pub alone : GivesOne true bytes (record { place = offset; item = x })
-  pub alone-refused : itemCount false bytes ≡ Count.Refused (refusal bad_first 0)
+  pub alone-refused : item_count false bytes ≡ Count.Refused (refusal bad_first 0)
 
 -- the ranges of the fields' types
 pub record ReportFits (r : Report) : Type 0 where

@@ -86,13 +86,13 @@ marked_filter_word test word (m ∷ ms) =
     filter-step test word (filter_word test (word / 2) ms) m ms (is_free word) refl (marked_filter_word test (word / 2) ms)
 
 -- a test of the records is one of the members
-pub filter_word-rows_lem :
+pub filter_word_rows_lem :
     (test : Record → Bool) (word : ℕ) (ms : Members) →
     filter_word test word (records_of ms) ≡ filter_word (λ m. test m.«record») word ms
 unfolding filter_word records_of
-filter_word-rows_lem test word [] = refl
-filter_word-rows_lem test word (m ∷ ms) =
-    ap (λ (n : ℕ). bit (not (is_free word) && test m.«record») + 2 * n) (filter_word-rows_lem test (word / 2) ms)
+filter_word_rows_lem test word [] = refl
+filter_word_rows_lem test word (m ∷ ms) =
+    ap (λ (n : ℕ). bit (not (is_free word) && test m.«record») + 2 * n) (filter_word_rows_lem test (word / 2) ms)
 
 fits_step : (yes : Bool) (k rest : ℕ) → rest < 2 ^ k → bit yes + 2 * rest < 2 ^ suc k
 fits_step true k rest h = omega (arith, pow-suc 2 k)

@@ -14,12 +14,12 @@ use Rattle.packet.specs.Checks.{passed, refused}
 use Rattle.packet.specs.Packet.{size}
 use Rattle.packet.specs.Report.{block_size, block_check, block_items}
 use Rattle.packet.specs.Contents.{contents}
-use Rattle.packet.specs.Answers.{headIs, blockIs}
+use Rattle.packet.specs.Answers.{head_is, block_is}
 use Rattle.packet.proofs.Laws.Packet.{head_is_passed, head_is_refused}
 use Rattle.packet.proofs.Laws.Blocks.{met_report, met_skipped, met_refused, items_none, items_one}
 use Rattle.datagram.specs.declared.Count.{Count}
 use Rattle.datagram.specs.Datagram.{parts_check, packet_check, packet_items}
-use Rattle.datagram.specs.Answers.{refusal, partsCount}
+use Rattle.datagram.specs.Answers.{refusal, parts_count}
 use Rattle.datagram.proofs.Laws.Walk.{tally, tally_refused, tally_part, count_items_lem, count-refused}
 use Rattle.datagram.proofs.Laws.Datagram.{check_refused, check_of, packets_roomy}
 
@@ -37,13 +37,13 @@ pub record BlockCounted (d : List ℕ) (sender stop n at items bytes : ℕ) : Ty
 
 module _ (d : List ℕ) (sender stop n at : ℕ) (here : at < stop) where
   pub block_refused :
-      (number : ℕ) → blockIs d stop at ≡ Block.Refused number
+      (number : ℕ) → block_is d stop at ≡ Block.Refused number
       → blocks_left d sender stop n at ≡ Count.Refused (refusal number at)
   block_refused number e =
       tally_refused (block_check d stop) (block_items d sender) (block_size d) stop (λ k. omega arith) n at number at here
       (met_refused d stop at number e)
 
-  pub report-counted : blockIs d stop at ≡ Block.Report → BlockCounted d sender stop n at 1 32
+  pub report-counted : block_is d stop at ≡ Block.Report → BlockCounted d sender stop n at 1 32
   report-counted e =
       let m : _ = met_report d stop at e in
       record {
@@ -56,7 +56,7 @@ module _ (d : List ℕ) (sender stop n at : ℕ) (here : at < stop) where
             m.0.size;
       }
 
-  pub skipped_counted : (bytes : ℕ) → blockIs d stop at ≡ Block.Skipped bytes → BlockCounted d sender stop n at 0 bytes
+  pub skipped_counted : (bytes : ℕ) → block_is d stop at ≡ Block.Skipped bytes → BlockCounted d sender stop n at 0 bytes
   skipped_counted bytes e =
       let m : _ = met_skipped d stop at bytes e in
       record {
@@ -89,25 +89,25 @@ module _ (reduced : Bool) (d : List ℕ) (n p : ℕ) (here : p < length d) where
       tally_refused (packet_check reduced d) (packet_items d) (size d) (length d) (λ k. omega arith) n p number place here e
 
   pub head_refused :
-      (number : ℕ) → headIs reduced d p ≡ PacketHead.Refused number
+      (number : ℕ) → head_is reduced d p ≡ PacketHead.Refused number
       → packets_left reduced d n p ≡ Count.Refused (refusal number p)
   head_refused number e =
       left-refused number p (check_refused reduced d p number p (head_is_refused reduced d p number e))
 
   -- a packet whose header has passed
-  module _ (h : Head) (passes : headIs reduced d p ≡ PacketHead.Head h) where
+  module _ (h : Head) (passes : head_is reduced d p ≡ PacketHead.Head h) where
     check_of_parts : packet_check reduced d p ≡ parts_check d (contents d p)
     check_of_parts = check_of reduced d p (head_is_passed reduced d p h passes).0
 
     pub parts_refused :
-        (r : Refusal) → partsCount d p ≡ Count.Refused r
+        (r : Refusal) → parts_count d p ≡ Count.Refused r
         → packets_left reduced d n p ≡ Count.Refused (refusal r.number r.place)
     parts_refused r e =
         left-refused _ _
         (check_of_parts ∙ count-refused (parts_check d (contents d p)) (length (packet_items d p)) r e)
 
     pub packet_counted :
-        (items : ℕ) → partsCount d p ≡ Count.Items items → PacketCounted reduced d n p items h.bytes
+        (items : ℕ) → parts_count d p ≡ Count.Items items → PacketCounted reduced d n p items h.bytes
     packet_counted items e =
         let m : _ = count_items_lem (parts_check d (contents d p)) (length (packet_items d p)) items e in
         let check : packet_check reduced d p ≡ passed = check_of_parts ∙ m.0 in

@@ -19,7 +19,7 @@ use Rattle.packet.proofs.Laws.Packet.{Readable, head_version, head_passed}
 use Rattle.packet.proofs.Laws.Contents.{Holds, unread, sources, blocks, setting, holds}
 use Rattle.packet.proofs.Laws.Blocks.{block_inside, length-block_items, one_or_none}
 use Rattle.datagram.specs.Datagram.{source_items, blocks_check, blocks_items, parts_check, packet_check, parts_items, packet_items, packets_check, packets_items}
-use Rattle.datagram.specs.Answers.{countUnless, partsCount}
+use Rattle.datagram.specs.Answers.{count_unless, parts_count}
 use Rattle.datagram.proofs.Laws.Walk.{walk-part, walk_end, check_each-part, gives_part, gives_end, Roomy, gives_bound}
 
 -- ---- source_items
@@ -87,9 +87,9 @@ items_of d p e = ap (parts_items d p) e
 -- the count of a packet by its type
 pub count_of_type :
     (d : List ℕ) (p : ℕ) (t : PacketType) → kind d p ≡ t
-    → partsCount d p ≡ countUnless (parts_check d (contents_of d p t)) (length (parts_items d p (contents_of d p t)))
+    → parts_count d p ≡ count_unless (parts_check d (contents_of d p t)) (length (parts_items d p (contents_of d p t)))
 unfolding packet_items
-count_of_type d p t e = ap (λ (x : Packet). countUnless (parts_check d x) (length (parts_items d p x))) (ap (contents_of d p) e)
+count_of_type d p t e = ap (λ (x : Packet). count_unless (parts_check d x) (length (parts_items d p x))) (ap (contents_of d p) e)
 
 -- ---- an upper bound: no more items than words
 

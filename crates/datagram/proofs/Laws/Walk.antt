@@ -13,7 +13,7 @@ use Rattle.idms.specs.declared.Refusal.{Refusal}
 use Rattle.datagram.specs.declared.Count.{Count}
 use Rattle.packet.specs.Checks.{Check, passed, refused, and_then}
 use Rattle.datagram.specs.Walk.{walking, walk, check_each, gives}
-use Rattle.datagram.specs.Answers.{refusal, countUnless}
+use Rattle.datagram.specs.Answers.{refusal, count_unless}
 use Rattle.packet.proofs.Laws.Checks.{both_pass, Refuses, passed_refuses, and_then_refuses}
 
 -- ---- walk
@@ -131,27 +131,27 @@ module _ (check : ℕ → Check) (give : ℕ → List Placed) (size : ℕ → �
     pub gives_bound : (place : ℕ) → check_each check size stop place ≡ passed → 4 * length (gives give size stop place) ≤ stop - place
     gives_bound place e = bound (stop - place) place (omega arith) e
 
--- ---- countUnless
+-- ---- count_unless
 
-pub count_items_lem : (k : Check) (n m : ℕ) → countUnless k n ≡ Count.Items m → (k ≡ passed) × (m ≡ n)
+pub count_items_lem : (k : Check) (n m : ℕ) → count_unless k n ≡ Count.Items m → (k ≡ passed) × (m ≡ n)
 count_items_lem passed n m e = (refl, cc)
 count_items_lem (refused number place) n m e = let z : ◌≡◌ {A = ℕ} 0 1 = cc in absurd (omega arith)
 
 pub count-refused :
-    (k : Check) (n : ℕ) (r : Refusal) → countUnless k n ≡ Count.Refused r → k ≡ refused r.number r.place
+    (k : Check) (n : ℕ) (r : Refusal) → count_unless k n ≡ Count.Refused r → k ≡ refused r.number r.place
 count-refused passed n r e = let z : ◌≡◌ {A = ℕ} 0 1 = cc in absurd (omega arith)
 count-refused (refused number place) n r e =
     let same : refusal number place ≡ r = cc in
     ap (λ (x : Refusal). refused x.number x.place) same
 
--- ---- tally: what a loop over parts has yet to answer, with n items countUnless
+-- ---- tally: what a loop over parts has yet to answer, with n items count_unless
 
 module _ (check : ℕ → Check) (give : ℕ → List Placed) (size : ℕ → ℕ) (stop : ℕ) where
   abbrev pub tally : ℕ → ℕ → Count
-  tally n place = countUnless (check_each check size stop place) (n + length (gives give size stop place))
+  tally n place = count_unless (check_each check size stop place) (n + length (gives give size stop place))
 
   pub tally_start :
-      (place : ℕ) → tally 0 place ≡ countUnless (check_each check size stop place) (length (gives give size stop place))
+      (place : ℕ) → tally 0 place ≡ count_unless (check_each check size stop place) (length (gives give size stop place))
   tally_start place = rw zero-add
 
   module _ (grows : (place : ℕ) → 0 < size place) where

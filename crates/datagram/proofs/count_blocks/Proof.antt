@@ -4,7 +4,7 @@ use mathlib.Core.Path.{◌≡◌, sym, ap, ◌∙◌}
 use native.Mathlib.Nat.{add-zero}
 use native.Mathlib.Omega.{arith}
 use borrow.Author.Rules.{rules}
-use Rattle.datagram.specs.Answers.{blocksCount}
+use Rattle.datagram.specs.Answers.{blocks_count}
 use Rattle.packet.specs.Bytes.{be32}
 use Rattle.packet.specs.Report.{block_size, block_check, block_items}
 use Rattle.datagram.proofs.Laws.Counting.{blocks_left, block_refused, report-counted, skipped_counted}
@@ -16,7 +16,7 @@ abbrev invariant-loop : tie.invariant-loop
 invariant-loop d p content stop at₀ n₀ at n =
     (at ≤ p + content)
     × (n ≤ at)
-    × (blocksCount d p content ≡ blocks_left d (be32 d (p + 4)) (p + content) n at)
+    × (blocks_count d p content ≡ blocks_left d (be32 d (p + 4)) (p + content) n at)
 
 abbrev decreases-loop : tie.decreases-loop
 decreases-loop d p content stop at₀ n₀ at n = p + content - at

@@ -4,7 +4,7 @@ use mathlib.Core.Path.{◌≡◌, sym, ◌∙◌}
 use lib.ListN.{length}
 use native.Mathlib.Omega.{arith}
 use borrow.Author.Rules.{rules}
-use Rattle.datagram.specs.Answers.{packetsCount}
+use Rattle.datagram.specs.Answers.{packets_count}
 use Rattle.datagram.specs.Datagram.{packet_check, packet_items}
 use Rattle.packet.specs.Packet.{size}
 use Rattle.datagram.proofs.Laws.Counting.{packets_left, head_refused, parts_refused, packet_counted}
@@ -15,7 +15,7 @@ use Rattle.datagram.proofs.count_packets.Statement.{statement}
 use Rattle.datagram.proofs.count_packets.Tie as tie
 
 abbrev invariant-loop : tie.invariant-loop
-invariant-loop d reduced p₀ n₀ p n = (p ≤ length d) × (4 * n ≤ p) × (packetsCount reduced d 0 ≡ packets_left reduced d n p)
+invariant-loop d reduced p₀ n₀ p n = (p ≤ length d) × (4 * n ≤ p) × (packets_count reduced d 0 ≡ packets_left reduced d n p)
 
 abbrev decreases-loop : tie.decreases-loop
 decreases-loop d reduced p₀ n₀ p n = length d - p

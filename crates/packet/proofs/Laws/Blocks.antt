@@ -16,7 +16,7 @@ use Rattle.packet.specs.declared.block.BlockItem.{BlockItem}
 use Rattle.packet.specs.declared.block.BlockReport.{BlockReport}
 use Rattle.packet.specs.Checks.{Check, passed, refused, refuse_if}
 use Rattle.packet.specs.Report.{block_type, block_length, block_size, block_check, role, reports, report_at, block_items}
-use Rattle.packet.specs.Answers.{blockUnless, blockIs, blockItemOf, blockItem, reportIs}
+use Rattle.packet.specs.Answers.{block_unless, block_is, block_item_of, block_item, report_is}
 use Rattle.packet.proofs.Laws.Bools.{or_false, and_left}
 use Rattle.packet.proofs.Laws.Checks.{check_passes, Refuses, passed_refuses, refuse_if_refuses}
 
@@ -72,57 +72,57 @@ block_refuses P d stop at six seven =
     refuse_if_refuses P (ltb (length d) stop || ltb stop (at + block_size d at)) _ at _ six
     (refuse_if_refuses P (eqb (block_type d at) 12 && idms_length_is_bad (block_length d at)) _ at _ seven (passed_refuses P))
 
--- ---- blockIs, by the first check that applies
+-- ---- block_is, by the first check that applies
 
 module _ (d : List ℕ) (stop at : ℕ) where
-  pub block_outside : length d < stop → blockIs d stop at ≡ Block.Refused block_past_end
-  unfolding blockIs block_check
+  pub block_outside : length d < stop → block_is d stop at ≡ Block.Refused block_past_end
+  unfolding block_is block_check
   block_outside h = rw (lt-ltb (length d) stop h)
 
   module _ (l : stop ≤ length d) where
-    pub block_long : stop < at + block_size d at → blockIs d stop at ≡ Block.Refused block_past_end
-    unfolding blockIs block_check
+    pub block_long : stop < at + block_size d at → block_is d stop at ≡ Block.Refused block_past_end
+    unfolding block_is block_check
     block_long h = rw (le-ltb (length d) stop l, lt-ltb stop (at + block_size d at) h)
 
     module _ (h : at + block_size d at ≤ stop) where
-      pub block_idms : block_type d at ≡ 12 → blockIs d stop at ≡ idms_block (block_length d at) (role d at)
-      unfolding blockIs block_check
+      pub block_idms : block_type d at ≡ 12 → block_is d stop at ≡ idms_block (block_length d at) (role d at)
+      unfolding block_is block_check
       block_idms t =
           rw (le-ltb (length d) stop l, le-ltb stop (at + block_size d at) h, eq-eqb (block_type d at) 12 t)
           (go (eqb (block_length d at) 7) refl)
         where
           go :
               (s : Bool) → eqb (block_length d at) 7 ≡ s
-              → blockUnless (refuse_if (not s) bad_block_length at passed)
+              → block_unless (refuse_if (not s) bad_block_length at passed)
               (cond (role_reports (role d at)) Block.Report (Block.Skipped (block_size d at)))
               ≡ cond (not s) (Block.Refused bad_block_length)
               (cond (role_reports (role d at)) Block.Report (Block.Skipped 32))
           go true e = rw (eqb-true (block_length d at) 7 e)
           go false e = refl
 
-      pub block_other : (block_type d at ≡ 12 → ⊥) → blockIs d stop at ≡ Block.Skipped (block_size d at)
-      unfolding blockIs block_check
+      pub block_other : (block_type d at ≡ 12 → ⊥) → block_is d stop at ≡ Block.Skipped (block_size d at)
+      unfolding block_is block_check
       block_other t =
           rw (le-ltb (length d) stop l, le-ltb stop (at + block_size d at) h, ne_eqb (block_type d at) 12 t)
 
--- ---- blockIs, the other way: what an answer says of the checks
+-- ---- block_is, the other way: what an answer says of the checks
 
 block_unless_report :
-    (k : Check) (t : Bool) (b : ℕ) → blockUnless k (cond t Block.Report (Block.Skipped b)) ≡ Block.Report
+    (k : Check) (t : Bool) (b : ℕ) → block_unless k (cond t Block.Report (Block.Skipped b)) ≡ Block.Report
     → (k ≡ passed) × (t ≡ true)
 block_unless_report passed true b e = (refl, refl)
 block_unless_report passed false b e = let z : ◌≡◌ {A = ℕ} 0 1 = cc in absurd (omega arith)
 block_unless_report (refused number place) t b e = let z : ◌≡◌ {A = ℕ} 0 1 = cc in absurd (omega arith)
 
 block_unless_skipped :
-    (k : Check) (t : Bool) (b n : ℕ) → blockUnless k (cond t Block.Report (Block.Skipped b)) ≡ Block.Skipped n
+    (k : Check) (t : Bool) (b n : ℕ) → block_unless k (cond t Block.Report (Block.Skipped b)) ≡ Block.Skipped n
     → (k ≡ passed) × (t ≡ false) × (n ≡ b)
 block_unless_skipped passed true b n e = let z : ◌≡◌ {A = ℕ} 0 1 = cc in absurd (omega arith)
 block_unless_skipped passed false b n e = (refl, refl, cc)
 block_unless_skipped (refused number place) t b n e = let z : ◌≡◌ {A = ℕ} 0 1 = cc in absurd (omega arith)
 
 block_unless_refused :
-    (k : Check) (t : Bool) (b n : ℕ) → blockUnless k (cond t Block.Report (Block.Skipped b)) ≡ Block.Refused n
+    (k : Check) (t : Bool) (b n : ℕ) → block_unless k (cond t Block.Report (Block.Skipped b)) ≡ Block.Refused n
     → (q : ℕ) × (k ≡ refused n q)
 block_unless_refused passed true b n e = let z : ◌≡◌ {A = ℕ} 0 1 = cc in absurd (omega arith)
 block_unless_refused passed false b n e = let z : ◌≡◌ {A = ℕ} 0 1 = cc in absurd (omega arith)
@@ -136,8 +136,8 @@ pub record BlockPassed (d : List ℕ) (stop at bytes : ℕ) : Type 0 where
   pub within : stop ≤ length d
 
 module _ (d : List ℕ) (stop at : ℕ) where
-  pub met_report : blockIs d stop at ≡ Block.Report → BlockPassed d stop at 32 × (reports d at ≡ true)
-  unfolding blockIs
+  pub met_report : block_is d stop at ≡ Block.Report → BlockPassed d stop at 32 × (reports d at ≡ true)
+  unfolding block_is
   met_report e =
       let m : _ = block_unless_report (block_check d stop at) (reports d at) (block_size d at) e in
       let size : 32 ≡ block_size d at = omega (arith, report_words_lem d stop at m.0 m.1) in
@@ -145,15 +145,15 @@ module _ (d : List ℕ) (stop at : ℕ) where
       (record { check = m.0; size = size; inside = omega (arith, in'.0); within = in'.1 }, m.1)
 
   pub met_skipped :
-      (bytes : ℕ) → blockIs d stop at ≡ Block.Skipped bytes → BlockPassed d stop at bytes × (reports d at ≡ false)
-  unfolding blockIs
+      (bytes : ℕ) → block_is d stop at ≡ Block.Skipped bytes → BlockPassed d stop at bytes × (reports d at ≡ false)
+  unfolding block_is
   met_skipped bytes e =
       let m : _ = block_unless_skipped (block_check d stop at) (reports d at) (block_size d at) bytes e in
       let in' : _ = block_inside d stop at m.0 in
       (record { check = m.0; size = m.2; inside = omega (arith, in'.0, m.2); within = in'.1 }, m.1)
 
-  pub met_refused : (n : ℕ) → blockIs d stop at ≡ Block.Refused n → block_check d stop at ≡ refused n at
-  unfolding blockIs
+  pub met_refused : (n : ℕ) → block_is d stop at ≡ Block.Refused n → block_check d stop at ≡ refused n at
+  unfolding block_is
   met_refused n e =
       let r : _ = block_unless_refused (block_check d stop at) (reports d at) (block_size d at) n e in
       r.1
@@ -164,52 +164,52 @@ pub one_or_none : (t : Bool) → cond t 1 0 ≤ 1
 one_or_none true = omega arith
 one_or_none false = omega arith
 
--- ---- reportIs
+-- ---- report_is
 
-pub report_outside : (d : List ℕ) (sender at : ℕ) → length d - at < 32 → reportIs d sender at ≡ BlockReport.Outside
-unfolding reportIs
+pub report_outside : (d : List ℕ) (sender at : ℕ) → length d - at < 32 → report_is d sender at ≡ BlockReport.Outside
+unfolding report_is
 report_outside d sender at h = rw (lt-ltb (length d - at) 32 h)
 
 pub report_inside :
-    (d : List ℕ) (sender at : ℕ) → 32 ≤ length d - at → reportIs d sender at ≡ BlockReport.Fields (report_at d sender at)
-unfolding reportIs
+    (d : List ℕ) (sender at : ℕ) → 32 ≤ length d - at → report_is d sender at ≡ BlockReport.Fields (report_at d sender at)
+unfolding report_is
 report_inside d sender at h = rw (le-ltb (length d - at) 32 h)
 
--- ---- blockItem
+-- ---- block_item
 
 module _ (d : List ℕ) (sender stop at : ℕ) where
-  pub item_of : {x : Block} → blockIs d stop at ≡ x → blockItem d sender stop at ≡ blockItemOf x (report_at d sender at)
-  unfolding blockItem
-  item_of e = ap (λ (x : Block). blockItemOf x (report_at d sender at)) e
+  pub item_of : {x : Block} → block_is d stop at ≡ x → block_item d sender stop at ≡ block_item_of x (report_at d sender at)
+  unfolding block_item
+  item_of e = ap (λ (x : Block). block_item_of x (report_at d sender at)) e
 
   -- the other way: what an answer says of the block
 
   item_of_report :
-      (x : Block) (s r : Report) → blockItemOf x s ≡ BlockItem.Report r → (x ≡ Block.Report) × (r ≡ s)
+      (x : Block) (s r : Report) → block_item_of x s ≡ BlockItem.Report r → (x ≡ Block.Report) × (r ≡ s)
   item_of_report Block.Report s r e = (refl, cc)
   item_of_report (Block.Skipped n) s r e = let z : ◌≡◌ {A = ℕ} 0 1 = cc in absurd (omega arith)
   item_of_report (Block.Refused n) s r e = let z : ◌≡◌ {A = ℕ} 0 1 = cc in absurd (omega arith)
 
-  item_of_skipped : (x : Block) (s : Report) (n : ℕ) → blockItemOf x s ≡ BlockItem.Skipped n → x ≡ Block.Skipped n
+  item_of_skipped : (x : Block) (s : Report) (n : ℕ) → block_item_of x s ≡ BlockItem.Skipped n → x ≡ Block.Skipped n
   item_of_skipped Block.Report s n e = let z : ◌≡◌ {A = ℕ} 0 1 = cc in absurd (omega arith)
   item_of_skipped (Block.Skipped m) s n e = let same : m ≡ n = cc in ap Block.Skipped same
   item_of_skipped (Block.Refused m) s n e = let z : ◌≡◌ {A = ℕ} 0 1 = cc in absurd (omega arith)
 
-  item_of_refused : (x : Block) (s : Report) (n : ℕ) → blockItemOf x s ≡ BlockItem.Refused n → x ≡ Block.Refused n
+  item_of_refused : (x : Block) (s : Report) (n : ℕ) → block_item_of x s ≡ BlockItem.Refused n → x ≡ Block.Refused n
   item_of_refused Block.Report s n e = let z : ◌≡◌ {A = ℕ} 0 1 = cc in absurd (omega arith)
   item_of_refused (Block.Skipped m) s n e = let z : ◌≡◌ {A = ℕ} 0 1 = cc in absurd (omega arith)
   item_of_refused (Block.Refused m) s n e = let same : m ≡ n = cc in ap Block.Refused same
 
   pub gave_report :
-      (r : Report) → blockItem d sender stop at ≡ BlockItem.Report r
-      → (blockIs d stop at ≡ Block.Report) × (r ≡ report_at d sender at)
-  unfolding blockItem
-  gave_report r e = item_of_report (blockIs d stop at) (report_at d sender at) r e
+      (r : Report) → block_item d sender stop at ≡ BlockItem.Report r
+      → (block_is d stop at ≡ Block.Report) × (r ≡ report_at d sender at)
+  unfolding block_item
+  gave_report r e = item_of_report (block_is d stop at) (report_at d sender at) r e
 
-  pub gave_skipped : (n : ℕ) → blockItem d sender stop at ≡ BlockItem.Skipped n → blockIs d stop at ≡ Block.Skipped n
-  unfolding blockItem
-  gave_skipped n e = item_of_skipped (blockIs d stop at) (report_at d sender at) n e
+  pub gave_skipped : (n : ℕ) → block_item d sender stop at ≡ BlockItem.Skipped n → block_is d stop at ≡ Block.Skipped n
+  unfolding block_item
+  gave_skipped n e = item_of_skipped (block_is d stop at) (report_at d sender at) n e
 
-  pub gave_refused : (n : ℕ) → blockItem d sender stop at ≡ BlockItem.Refused n → blockIs d stop at ≡ Block.Refused n
-  unfolding blockItem
-  gave_refused n e = item_of_refused (blockIs d stop at) (report_at d sender at) n e
+  pub gave_refused : (n : ℕ) → block_item d sender stop at ≡ BlockItem.Refused n → block_is d stop at ≡ Block.Refused n
+  unfolding block_item
+  gave_refused n e = item_of_refused (block_is d stop at) (report_at d sender at) n e

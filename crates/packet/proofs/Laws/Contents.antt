@@ -17,7 +17,7 @@ use Rattle.packet.specs.Bytes.{be32}
 use Rattle.packet.specs.Packet.{packet_type, count, kind, size, content}
 use Rattle.packet.specs.Settings.{settings_at}
 use Rattle.packet.specs.Contents.{contents_of, contents, readable}
-use Rattle.packet.specs.Answers.{packetIs, settingsIs}
+use Rattle.packet.specs.Answers.{packet_is, settings_is}
 use Rattle.packet.proofs.Laws.Bools.{and_left, and_right}
 use Rattle.packet.proofs.Laws.Packet.{content_inside, Readable}
 
@@ -66,7 +66,7 @@ pub held_settings :
     (d : List ℕ) (p next : ℕ) → Holds d p (Packet.Settings next) → content d p ≡ 36
 held_settings d p next (setting t h) = h
 
--- ---- readable and packetIs
+-- ---- readable and packet_is
 
 module _ (d : List ℕ) (p : ℕ) where
   pub readable_there :
@@ -94,41 +94,41 @@ module _ (d : List ℕ) (p : ℕ) where
         enough = not-true (content_is_short (kind d p) (content d p)) (and_right fits enough h);
       }
 
-  pub packet_read : readable d p ≡ true → packetIs d p ≡ contents d p
-  unfolding packetIs
+  pub packet_read : readable d p ≡ true → packet_is d p ≡ contents d p
+  unfolding packet_is
   packet_read e = rw e
 
-  pub packet_unread : readable d p ≡ false → packetIs d p ≡ Packet.Unreadable
-  unfolding packetIs
+  pub packet_unread : readable d p ≡ false → packet_is d p ≡ Packet.Unreadable
+  unfolding packet_is
   packet_unread e = rw e
 
   -- no packet starts at the end of the datagram, or behind it
-  pub packet_outside : length d - p < 4 → packetIs d p ≡ Packet.Unreadable
+  pub packet_outside : length d - p < 4 → packet_is d p ≡ Packet.Unreadable
   packet_outside h = packet_unread (unreadable_long (omega arith))
 
   -- a packet whose header has passed
   pub known_readable : Readable d p → readable d p ≡ true
   known_readable h = readable_there h.fits h.enough
 
-  pub packet_known : Readable d p → packetIs d p ≡ contents d p
+  pub packet_known : Readable d p → packet_is d p ≡ contents d p
   packet_known h = packet_read (known_readable h)
 
--- ---- settingsIs
+-- ---- settings_is
 
-pub settings_outside : (d : List ℕ) (p : ℕ) → length d - p < 36 → settingsIs d p ≡ PacketSettings.Outside
-unfolding settingsIs
+pub settings_outside : (d : List ℕ) (p : ℕ) → length d - p < 36 → settings_is d p ≡ PacketSettings.Outside
+unfolding settings_is
 settings_outside d p h = rw (lt-ltb (length d - p) 36 h)
 
-pub settings_inside : (d : List ℕ) (p : ℕ) → 36 ≤ length d - p → settingsIs d p ≡ PacketSettings.Fields (settings_at d p)
-unfolding settingsIs
+pub settings_inside : (d : List ℕ) (p : ℕ) → 36 ≤ length d - p → settings_is d p ≡ PacketSettings.Fields (settings_at d p)
+unfolding settings_is
 settings_inside d p h = rw (le-ltb (length d - p) 36 h)
 
 -- a settings packet that is readable has its 36 bytes
-module _ (d : List ℕ) (p next : ℕ) (e : packetIs d p ≡ Packet.Settings next) where
-  pub settings_there : settingsIs d p ≡ PacketSettings.Fields (settings_at d p)
+module _ (d : List ℕ) (p next : ℕ) (e : packet_is d p ≡ Packet.Settings next) where
+  pub settings_there : settings_is d p ≡ PacketSettings.Fields (settings_at d p)
   settings_there = go (readable d p) refl
     where
-      go : (t : Bool) → readable d p ≡ t → settingsIs d p ≡ PacketSettings.Fields (settings_at d p)
+      go : (t : Bool) → readable d p ≡ t → settings_is d p ≡ PacketSettings.Fields (settings_at d p)
       go true t =
           let h : _ = readable_packet d p t in
           let c : contents d p ≡ Packet.Settings next = sym (packet_read d p t) ∙ e in
@@ -140,10 +140,10 @@ module _ (d : List ℕ) (p next : ℕ) (e : packetIs d p ≡ Packet.Settings nex
           absurd (omega arith)
 
   -- as a call has given them
-  pub settings-read : (s : Settings) → settingsIs d p ≡ PacketSettings.Fields s → s ≡ settings_at d p
+  pub settings-read : (s : Settings) → settings_is d p ≡ PacketSettings.Fields s → s ≡ settings_at d p
   settings-read s f = let g : _ = settings_there in cc
 
-  pub settings_not_outside : settingsIs d p ≡ PacketSettings.Outside → ⊥
+  pub settings_not_outside : settings_is d p ≡ PacketSettings.Outside → ⊥
   settings_not_outside f =
       let g : _ = settings_there in
       let z : ◌≡◌ {A = ℕ} 0 1 = cc in

@@ -14,7 +14,7 @@ use Rattle.packet.specs.declared.header.PacketHead.{PacketHead}
 use Rattle.packet.specs.Checks.{Check, passed, refused}
 use Rattle.packet.specs.Bytes.{byte}
 use Rattle.packet.specs.Packet.{version, padded, kind, size, padding, padding_is_bad, content, head_check}
-use Rattle.packet.specs.Answers.{head_of, headUnless, headIs}
+use Rattle.packet.specs.Answers.{head_of, head_unless, head_is}
 use Rattle.packet.proofs.Laws.Checks.{check_passes, Refuses, passed_refuses, refuse_if_refuses}
 
 -- ---- content
@@ -92,65 +92,65 @@ head_refuses P reduced d p two three four five =
     (refuse_if_refuses P (first_is_bad reduced p (kind d p)) _ p _ four
     (refuse_if_refuses P (content_is_short (kind d p) (content d p)) _ p _ five (passed_refuses P)))))
 
--- ---- headIs, by the first check that applies
+-- ---- head_is, by the first check that applies
 
 module _ (reduced : Bool) (d : List ℕ) (p : ℕ) where
-  pub head_is_version : (version d p ≡ 2 → ⊥) → headIs reduced d p ≡ PacketHead.Refused bad_packet
-  unfolding headIs head_check
-  head_is_version v = rw (ne_eqb (version d p) 2 v, headIs, head_check)
+  pub head_is_version : (version d p ≡ 2 → ⊥) → head_is reduced d p ≡ PacketHead.Refused bad_packet
+  unfolding head_is head_check
+  head_is_version v = rw (ne_eqb (version d p) 2 v, head_is, head_check)
 
   module _ (v : version d p ≡ 2) where
-    pub head_is_long : length d < p + size d p → headIs reduced d p ≡ PacketHead.Refused bad_packet
-    unfolding headIs head_check
+    pub head_is_long : length d < p + size d p → head_is reduced d p ≡ PacketHead.Refused bad_packet
+    unfolding head_is head_check
     head_is_long l = rw (eq-eqb (version d p) 2 v, lt-ltb (length d) (p + size d p) l)
 
     module _ (l : p + size d p ≤ length d) where
-      pub head_is_padding : padding_is_bad d p ≡ true → headIs reduced d p ≡ PacketHead.Refused bad_padding
-      unfolding headIs head_check
+      pub head_is_padding : padding_is_bad d p ≡ true → head_is reduced d p ≡ PacketHead.Refused bad_padding
+      unfolding head_is head_check
       head_is_padding b = rw (eq-eqb (version d p) 2 v, le-ltb (length d) (p + size d p) l, b)
 
       module _ (b : padding_is_bad d p ≡ false) where
-        pub head_is_first : first_is_bad reduced p (kind d p) ≡ true → headIs reduced d p ≡ PacketHead.Refused bad_first
-        unfolding headIs head_check
+        pub head_is_first : first_is_bad reduced p (kind d p) ≡ true → head_is reduced d p ≡ PacketHead.Refused bad_first
+        unfolding head_is head_check
         head_is_first f = rw (eq-eqb (version d p) 2 v, le-ltb (length d) (p + size d p) l, b, f)
 
         module _ (f : first_is_bad reduced p (kind d p) ≡ false) where
           pub head_is_short :
-              content_is_short (kind d p) (content d p) ≡ true → headIs reduced d p ≡ PacketHead.Refused short_content
-          unfolding headIs head_check
+              content_is_short (kind d p) (content d p) ≡ true → head_is reduced d p ≡ PacketHead.Refused short_content
+          unfolding head_is head_check
           head_is_short s = rw (eq-eqb (version d p) 2 v, le-ltb (length d) (p + size d p) l, b, f, s)
 
-          pub head_is_head : content_is_short (kind d p) (content d p) ≡ false → headIs reduced d p ≡ PacketHead.Head (head_of d p)
-          unfolding headIs head_check
+          pub head_is_head : content_is_short (kind d p) (content d p) ≡ false → head_is reduced d p ≡ PacketHead.Head (head_of d p)
+          unfolding head_is head_check
           head_is_head s = rw (eq-eqb (version d p) 2 v, le-ltb (length d) (p + size d p) l, b, f, s)
 
   -- a byte past the end reads as 0, and no packet is shorter than a word
-  pub head_is_outside : length d - p < 4 → headIs reduced d p ≡ PacketHead.Refused bad_packet
+  pub head_is_outside : length d - p < 4 → head_is reduced d p ≡ PacketHead.Refused bad_packet
   head_is_outside h = go (eqb (version d p) 2) refl
     where
-      go : (t : Bool) → eqb (version d p) 2 ≡ t → headIs reduced d p ≡ PacketHead.Refused bad_packet
+      go : (t : Bool) → eqb (version d p) 2 ≡ t → head_is reduced d p ≡ PacketHead.Refused bad_packet
       go true e = head_is_long (eqb-true (version d p) 2 e) (omega arith)
       go false e = head_is_version (eqb-false (version d p) 2 e)
 
--- ---- headIs, the other way: what an answer says of the checks
+-- ---- head_is, the other way: what an answer says of the checks
 
-head_unless_head : (k : Check) (x h : Head) → headUnless k x ≡ PacketHead.Head h → (k ≡ passed) × (h ≡ x)
+head_unless_head : (k : Check) (x h : Head) → head_unless k x ≡ PacketHead.Head h → (k ≡ passed) × (h ≡ x)
 head_unless_head passed x h e = (refl, cc)
 head_unless_head (refused number place) x h e = let z : ◌≡◌ {A = ℕ} 0 1 = cc in absurd (omega arith)
 
-head_unless_refused : (k : Check) (x : Head) (n : ℕ) → headUnless k x ≡ PacketHead.Refused n → (q : ℕ) × (k ≡ refused n q)
+head_unless_refused : (k : Check) (x : Head) (n : ℕ) → head_unless k x ≡ PacketHead.Refused n → (q : ℕ) × (k ≡ refused n q)
 head_unless_refused passed x n e = let z : ◌≡◌ {A = ℕ} 0 1 = cc in absurd (omega arith)
 head_unless_refused (refused number place) x n e = (place, cc)
 
 pub head_is_passed :
-    (reduced : Bool) (d : List ℕ) (p : ℕ) (h : Head) → headIs reduced d p ≡ PacketHead.Head h
+    (reduced : Bool) (d : List ℕ) (p : ℕ) (h : Head) → head_is reduced d p ≡ PacketHead.Head h
     → (head_check reduced d p ≡ passed) × (h ≡ head_of d p)
-unfolding headIs
+unfolding head_is
 head_is_passed reduced d p h e = head_unless_head (head_check reduced d p) (head_of d p) h e
 
 pub head_is_refused :
-    (reduced : Bool) (d : List ℕ) (p n : ℕ) → headIs reduced d p ≡ PacketHead.Refused n → head_check reduced d p ≡ refused n p
-unfolding headIs
+    (reduced : Bool) (d : List ℕ) (p n : ℕ) → head_is reduced d p ≡ PacketHead.Refused n → head_check reduced d p ≡ refused n p
+unfolding head_is
 head_is_refused reduced d p n e =
     let r : _ = head_unless_refused (head_check reduced d p) (head_of d p) n e in
     r.1

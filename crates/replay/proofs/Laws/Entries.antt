@@ -14,11 +14,11 @@ use Rattle.origin.specs.declared.Origin.{Origin}
 use Rattle.packet.specs.Checks.{Check, passed, refused}
 use Rattle.datagram.specs.declared.Count.{Count}
 use Rattle.datagram.specs.Datagram.{datagram_check, datagram_items}
-use Rattle.datagram.specs.Answers.{refusal, itemCount}
+use Rattle.datagram.specs.Answers.{refusal, item_count}
 use Rattle.rtcp.specs.declared.cursor.Cursor.{Cursor}
 use Rattle.rtcp.specs.declared.cursor.Opened.{Opened}
 use Rattle.rtcp.specs.Cursor.{start, given}
-use Rattle.rtcp.specs.Answers.{cursorOn}
+use Rattle.rtcp.specs.Answers.{cursor_on}
 use Rattle.rtcp.proofs.Theorems.{count_bound}
 use Rattle.register.specs.declared.Reading.{Reading}
 use Rattle.register.specs.Register.{Call}
@@ -82,11 +82,11 @@ module _ (t : Table) (e : RecordedDatagram) where
       datagram_check false e.datagram ≡ passed
       → Begins t e (counted (Count.Items (length (datagram_items e.datagram))))
       (first_row (Count.Items (length (datagram_items e.datagram))))
-  unfolding entry_calls entry_row first_row cursorOn
+  unfolding entry_calls entry_row first_row cursor_on
   begins_passed k =
       let d = e.datagram in
       let n = length (datagram_items d) in
-      let opens : cursorOn false d ≡ Opened.Items n start = rw k refl in
+      let opens : cursor_on false d ≡ Opened.Items n start = rw k refl in
       let calls : counted (Count.Items n) ≡ entry_calls e =
       ap (calls_in e.origin e.at) (cursor_items false d n start opens).1 ∙ rw k refl in
       let numbers = answers_from t (entry_calls e) in
@@ -104,8 +104,8 @@ module _ (t : Table) (e : RecordedDatagram) where
   begins_refused number place k = rw (k, first_of_two-none number) (refl, refl)
 
   pub entry_begins :
-      (count : Count) → count ≡ itemCount false e.datagram → Begins t e (counted count) (first_row count)
-  unfolding itemCount
+      (count : Count) → count ≡ item_count false e.datagram → Begins t e (counted count) (first_row count)
+  unfolding item_count
   entry_begins count o = go (datagram_check false e.datagram) refl
     where
       go :
@@ -119,7 +119,7 @@ module _ (t : Table) (e : RecordedDatagram) where
 
 -- no datagram has more items than words
 pub begins_few :
-    (d : List ℕ) (count : Count) → count ≡ itemCount false d → (first_row count).accepted + items_in count ≤ 512
+    (d : List ℕ) (count : Count) → count ≡ item_count false d → (first_row count).accepted + items_in count ≤ 512
 unfolding first_row
 begins_few d (Count.Items n) o =
     let bound : _ = count_bound false d n (sym o) in

@@ -14,7 +14,7 @@ use Rattle.idms.specs.declared.Placed.{Placed}
 use Rattle.idms.specs.declared.Report.{Report}
 use Rattle.idms.specs.declared.Settings.{Settings}
 use Rattle.datagram.specs.declared.Count.{Count}
-use Rattle.datagram.specs.Answers.{itemCount}
+use Rattle.datagram.specs.Answers.{item_count}
 use Rattle.rtcp.specs.declared.cursor.Cursor.{Cursor}
 use Rattle.rtcp.specs.declared.cursor.Step.{Step}
 use Rattle.rtcp.specs.Cursor.{start, given}
@@ -61,7 +61,7 @@ behind f n i end = entries_from f (n - (i + 1)) (entry_place (i + 1)) end
 -- its items have been counted, and none is taken
 pub record Begun (f : List ℕ) (entry : Listed) (left : ℕ) (cursor : Cursor) (row : Row) : Type 0 where
   pub count : Count
-  pub counts : count ≡ itemCount false (datagram_of f entry)
+  pub counts : count ≡ item_count false (datagram_of f entry)
   pub left_is : left ≡ items_in count
   pub cursor_is : cursor ≡ start
   pub row_is : row ≡ first_row count
@@ -87,7 +87,7 @@ listed_begins t f p body entry left cursor row e b =
     let d : datagram_of f entry ≡ recorded.datagram = ap (datagram_of f) e ∙ same-datagram f p body in
     let theirs = calls_in recorded.origin recorded.at (given (items_in b.count) recorded.datagram start) in
     let begun : Begins t recorded theirs (first_row b.count) =
-    entry_begins t recorded b.count (b.counts ∙ ap (itemCount false) d) in
+    entry_begins t recorded b.count (b.counts ∙ ap (item_count false) d) in
     let calls : left_calls f entry left cursor ≡ theirs =
     ap (λ (g : Listed). calls_in g.origin g.at (given left (datagram_of f entry) cursor)) e
     ∙ ap (λ (bytes : List ℕ). calls_in recorded.origin recorded.at (given left bytes cursor)) d

@@ -7,12 +7,12 @@ use Rattle.packet.specs.declared.contents.Packet.{Packet}
 use Rattle.packet_checks.specs.declared.block.Block.{Block}
 use Rattle.packet.specs.declared.bytes.Source.{Source}
 use Rattle.packet.specs.Report.{report_at}
-use Rattle.packet.specs.Answers.{packetIs, blockIs, source_is}
+use Rattle.packet.specs.Answers.{packet_is, block_is, source_is}
 use Rattle.rtcp.specs.declared.cursor.State.{State}
 use Rattle.rtcp.specs.declared.cursor.Advance.{Advance}
 use Rattle.rtcp.specs.Cursor.{packet_step, source_step, block_step, advance}
 
-pub at_packet_lem : (d : List ℕ) (p : ℕ) {x : Packet} → packetIs d p ≡ x → advance d (State.Packet p) ≡ packet_step d p x
+pub at_packet_lem : (d : List ℕ) (p : ℕ) {x : Packet} → packet_is d p ≡ x → advance d (State.Packet p) ≡ packet_step d p x
 unfolding advance
 at_packet_lem d p e = ap (packet_step d p) e
 
@@ -32,7 +32,7 @@ module _ (d : List ℕ) (sender at stop next : ℕ) where
   behind_blocks h = rw (le-leb stop at h)
 
   pub at_block :
-      {x : Block} → at < stop → blockIs d stop at ≡ x
+      {x : Block} → at < stop → block_is d stop at ≡ x
       → advance d (State.Blocks sender at stop next) ≡ block_step sender at stop next x (report_at d sender at)
   unfolding advance
   at_block h e = rw (lt-leb stop at h, e)

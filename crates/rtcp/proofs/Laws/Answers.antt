@@ -13,22 +13,22 @@ use Rattle.refusals.specs.Refusals.{no_such_item}
 use Rattle.packet.specs.Checks.{passed, refused}
 use Rattle.datagram.specs.declared.Count.{Count}
 use Rattle.datagram.specs.Datagram.{datagram_check, datagram_items}
-use Rattle.datagram.specs.Answers.{refusal, itemCount}
+use Rattle.datagram.specs.Answers.{refusal, item_count}
 use Rattle.datagram.proofs.Laws.Answers.{datagram-passed, datagram-refused}
 use Rattle.rtcp.specs.declared.cursor.Opened.{Opened}
-use Rattle.rtcp.specs.Answers.{nothing, pick, item_of, cursorOn}
+use Rattle.rtcp.specs.Answers.{nothing, pick, item_of, cursor_on}
 use Rattle.rtcp.specs.Cursor.{start}
 
--- ---- cursorOn
+-- ---- cursor_on
 
 module _ (reduced : Bool) (d : List ℕ) where
-  pub cursor-passed : (n : ℕ) → itemCount reduced d ≡ Count.Items n → cursorOn reduced d ≡ Opened.Items n start
-  unfolding cursorOn
+  pub cursor-passed : (n : ℕ) → item_count reduced d ≡ Count.Items n → cursor_on reduced d ≡ Opened.Items n start
+  unfolding cursor_on
   cursor-passed n e =
       let m : _ = datagram-passed reduced d n e in rw m.0 (ap (λ (k : ℕ). Opened.Items k start) (sym m.1))
 
-  pub cursor-refused : (r : Refusal) → itemCount reduced d ≡ Count.Refused r → cursorOn reduced d ≡ Opened.Refused r
-  unfolding cursorOn
+  pub cursor-refused : (r : Refusal) → item_count reduced d ≡ Count.Refused r → cursor_on reduced d ≡ Opened.Refused r
+  unfolding cursor_on
   cursor-refused r e = rw (datagram-refused reduced d r e)
 
 -- ---- an item behind the first

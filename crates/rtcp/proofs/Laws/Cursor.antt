@@ -16,7 +16,7 @@ use Rattle.packet.specs.Checks.{passed}
 use Rattle.packet.specs.Bytes.{be32}
 use Rattle.packet.specs.Packet.{size, content}
 use Rattle.packet.specs.Contents.{contents, readable}
-use Rattle.packet.specs.Answers.{blockIs, source_is}
+use Rattle.packet.specs.Answers.{block_is, source_is}
 use Rattle.packet.proofs.Laws.Bytes.{source_inside}
 use Rattle.packet.proofs.Laws.Checks.{check_passes}
 use Rattle.packet.proofs.Laws.Packet.{Readable}
@@ -65,10 +65,10 @@ advance_falls d (State.Sources at stop next) = go (leb stop at) refl (source_is 
     go true t x e = rw (behind_sources d at stop next (leb-true stop at t)) (falls (State.Packet next) (omega arith))
     go false t (Source.Number s) e = rw (at_source d at stop next (leb-false stop at t) e) (gives _ _)
     go false t Source.Outside e = rw (at_source d at stop next (leb-false stop at t) e) ends
-advance_falls d (State.Blocks sender at stop next) = go (leb stop at) refl (blockIs d stop at) refl
+advance_falls d (State.Blocks sender at stop next) = go (leb stop at) refl (block_is d stop at) refl
   where
     go :
-        (t : Bool) → leb stop at ≡ t → (x : Block) → blockIs d stop at ≡ x
+        (t : Bool) → leb stop at ≡ t → (x : Block) → block_is d stop at ≡ x
         → Falls d (State.Blocks sender at stop next) (advance d (State.Blocks sender at stop next))
     go true t x e =
         rw (behind_blocks d sender at stop next (leb-true stop at t)) (falls (State.Packet next) (omega arith))
@@ -184,10 +184,10 @@ advance_steps d (State.Sources at stop next) good = go (leb stop at) refl
         (gave _ (State.Sources (at + 4) stop next)
         (ap (λ (l : List Placed). l ++ packets_items d next) (sources_part d stop at here))
         (good.0, omega (arith, good.1), good.2))
-advance_steps d (State.Blocks sender at stop next) good = go (leb stop at) refl (blockIs d stop at) refl
+advance_steps d (State.Blocks sender at stop next) good = go (leb stop at) refl (block_is d stop at) refl
   where
     go :
-        (t : Bool) → leb stop at ≡ t → (x : Block) → blockIs d stop at ≡ x
+        (t : Bool) → leb stop at ≡ t → (x : Block) → block_is d stop at ≡ x
         → Steps d (State.Blocks sender at stop next) (advance d (State.Blocks sender at stop next))
     go true t x e =
         let over : stop ≤ at = leb-true stop at t in

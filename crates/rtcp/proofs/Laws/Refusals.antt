@@ -16,10 +16,10 @@ use Rattle.packet.specs.Checks.{Check, passed, refused}
 use Rattle.packet.proofs.Laws.Checks.{Refuses}
 use Rattle.datagram.specs.declared.Count.{Count}
 use Rattle.datagram.specs.Datagram.{datagram_check, datagram_items}
-use Rattle.datagram.specs.Answers.{refusal, itemCount}
+use Rattle.datagram.specs.Answers.{refusal, item_count}
 use Rattle.datagram.proofs.Laws.Answers.{datagram-refused}
 use Rattle.rtcp.specs.declared.cursor.Opened.{Opened}
-use Rattle.rtcp.specs.Answers.{pick, itemUnless, item_of, cursorUnless, cursorOn}
+use Rattle.rtcp.specs.Answers.{pick, item_unless, item_of, cursor_unless, cursor_on}
 use Rattle.rtcp.specs.Rows.{too_short, rows_unless, rows_answer}
 
 -- the number of an answer's refusal, 0 where there is none
@@ -36,14 +36,14 @@ module _ (P : ℕ → Type 0) (reduced : Bool) (d : List ℕ) where
   known_as number place r h same = h r.number r.place (ap (λ (x : Refusal). refused x.number x.place) same)
 
   module _ (known : Known (datagram_check reduced d)) where
-    pub count-refusals : (r : Refusal) → itemCount reduced d ≡ Count.Refused r → P r.number
+    pub count-refusals : (r : Refusal) → item_count reduced d ≡ Count.Refused r → P r.number
     count-refusals r e = known r.number r.place (datagram-refused reduced d r e)
 
-    pub cursor-refusals : (r : Refusal) → cursorOn reduced d ≡ Opened.Refused r → P r.number
-    unfolding cursorOn
+    pub cursor-refusals : (r : Refusal) → cursor_on reduced d ≡ Opened.Refused r → P r.number
+    unfolding cursor_on
     cursor-refusals r e = go (datagram_check reduced d) known e
       where
-        go : (k : Check) → Known k → cursorUnless k (length (datagram_items d)) ≡ Opened.Refused r → P r.number
+        go : (k : Check) → Known k → cursor_unless k (length (datagram_items d)) ≡ Opened.Refused r → P r.number
         go passed h e = let z : ◌≡◌ {A = ℕ} 0 1 = cc in absurd (omega arith)
         go (refused number place) h e = known_as number place r h (cc)
 
@@ -59,7 +59,7 @@ module _ (P : ℕ → Type 0) (reduced : Bool) (d : List ℕ) where
         past false x e = sym (ap refusal_number e)
 
         go :
-            (k : Check) → Known k → itemUnless k (datagram_items d) index ≡ Found.Refused r
+            (k : Check) → Known k → item_unless k (datagram_items d) index ≡ Found.Refused r
             → P r.number ⊎ (r.number ≡ no_such_item)
         go passed h e = inr (past (ltb index (length (datagram_items d))) _ e)
         go (refused number place) h e = inl (known_as number place r h (cc))

@@ -20,7 +20,7 @@ use Rattle.packet.proofs.Laws.Packet.{Readable}
 use Rattle.packet.proofs.Laws.Contents.{Holds, unread, sources, blocks, setting, holds}
 use Rattle.datagram.specs.declared.Count.{Count}
 use Rattle.datagram.specs.Datagram.{packets_items, datagram_items}
-use Rattle.datagram.specs.Answers.{refusal, itemCount}
+use Rattle.datagram.specs.Answers.{refusal, item_count}
 use Rattle.datagram.proofs.Laws.Datagram.{packets_end}
 use Rattle.datagram.proofs.Laws.Answers.{datagram-passed, datagram-refused}
 use Rattle.rtcp.specs.Rows.{put, HasRoom, ArePut, behind, rows_answer, rows_after}
@@ -109,12 +109,12 @@ none_left d rows₀ rows cell p n f e h = nothing_left (packets_items d p) (omeg
 
 module _ (reduced : Bool) (d rows : List ℕ) where
   pub rows-refused :
-      (r : Refusal) → itemCount reduced d ≡ Count.Refused r
+      (r : Refusal) → item_count reduced d ≡ Count.Refused r
       → (Count.Refused r ≡ rows_answer reduced d rows) × (rows ≡ rows_after reduced d rows)
   unfolding rows_answer rows_after
   rows-refused r e = rw (datagram-refused reduced d r e) (refl, refl)
 
-  module _ (n : ℕ) (e : itemCount reduced d ≡ Count.Items n) where
+  module _ (n : ℕ) (e : item_count reduced d ≡ Count.Items n) where
     pub rows_short :
         length rows < 10 * n
         → (Count.Refused (refusal short_buffer 0) ≡ rows_answer reduced d rows) × (rows ≡ rows_after reduced d rows)

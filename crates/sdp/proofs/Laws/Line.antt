@@ -12,7 +12,7 @@ use Rattle.refusals.specs.Refusals.{bad_line, bad_group}
 use Rattle.sdp.specs.declared.SyncGroup.{SyncGroup}
 use Rattle.sdp.specs.Digits.{are_digits, value_of, digits_of, without_leading_zeros}
 use Rattle.sdp.specs.Line.{prefix, crlf, sdp_line, group_line, greatest_group, digits_in}
-use Rattle.sdp.specs.Answers.{starts_with, keepsGrammar, areTooMany, groupIn}
+use Rattle.sdp.specs.Answers.{starts_with, keeps_grammar, are_too_many, group_in}
 use Rattle.sdp.specs.Grammar.{IsSdpLine}
 use Rattle.sdp.proofs.Laws.Digits.{length_digits}
 use Rattle.sdp.proofs.Laws.Frame.{starts_append, between, ends_append, framed}
@@ -47,10 +47,10 @@ module _ (group zeros : ℕ) (digits : List ℕ) (e : digits ≡ digits_of 10 gr
       ∙ length_line (drop zeros digits)
       ∙ omega (arith, left, h.0)
 
--- ---- keepsGrammar
+-- ---- keeps_grammar
 
-pub line_kept : (digits : List ℕ) → 1 ≤ length digits → are_digits digits ≡ true → keepsGrammar (sdp_line digits) ≡ true
-unfolding keepsGrammar
+pub line_kept : (digits : List ℕ) → 1 ≤ length digits → are_digits digits ≡ true → keeps_grammar (sdp_line digits) ≡ true
+unfolding keeps_grammar
 line_kept digits some each =
     rw (
       lt-ltb 25 (length (sdp_line digits)) (omega (arith, length_line digits)),
@@ -68,8 +68,8 @@ pub record Kept (d : List ℕ) : Type 0 where
   pub end : starts_with crlf (drop (length d - 2) d) ≡ true
   pub each : are_digits (digits_in d) ≡ true
 
-pub kept : (d : List ℕ) → keepsGrammar d ≡ true → Kept d
-unfolding keepsGrammar
+pub kept : (d : List ℕ) → keeps_grammar d ≡ true → Kept d
+unfolding keeps_grammar
 kept d e =
     let long = ltb 25 (length d) in
     let starts = starts_with prefix d in
@@ -82,7 +82,7 @@ kept d e =
 pub count_digits : (d : List ℕ) → length (digits_in d) ≡ length d - 25
 count_digits d = omega (arith, length-slice 23 (length d - 2) d (omega arith))
 
-pub kept_line : (d : List ℕ) → keepsGrammar d ≡ true → IsSdpLine d (digits_in d)
+pub kept_line : (d : List ℕ) → keeps_grammar d ≡ true → IsSdpLine d (digits_in d)
 kept_line d e =
     let k = kept d e in
     record {
@@ -91,56 +91,56 @@ kept_line d e =
       each = k.each;
     }
 
-pub line_digits : (d digits : List ℕ) → IsSdpLine d digits → (keepsGrammar d ≡ true) × (digits_in d ≡ digits)
+pub line_digits : (d digits : List ℕ) → IsSdpLine d digits → (keeps_grammar d ≡ true) × (digits_in d ≡ digits)
 line_digits d digits h = (
-  ap keepsGrammar h.whole ∙ line_kept digits h.one_or_more h.each,
+  ap keeps_grammar h.whole ∙ line_kept digits h.one_or_more h.each,
   ap digits_in h.whole ∙ digits_in_line digits,
 )
 
--- keepsGrammar by what was looked at, in the order of its tests
+-- keeps_grammar by what was looked at, in the order of its tests
 
-pub grammar_short : (d : List ℕ) → length d ≤ 25 → keepsGrammar d ≡ false
-unfolding keepsGrammar
+pub grammar_short : (d : List ℕ) → length d ≤ 25 → keeps_grammar d ≡ false
+unfolding keeps_grammar
 grammar_short d h = rw (le-ltb 25 (length d) h) refl
 
 module _ (d : List ℕ) (h : 25 < length d) where
-  pub grammar_start : starts_with prefix d ≡ false → keepsGrammar d ≡ false
-  unfolding keepsGrammar
+  pub grammar_start : starts_with prefix d ≡ false → keeps_grammar d ≡ false
+  unfolding keeps_grammar
   grammar_start e = rw (lt-ltb 25 (length d) h, e) refl
 
   module _ (start : starts_with prefix d ≡ true) where
-    pub grammar_end : starts_with crlf (drop (length d - 2) d) ≡ false → keepsGrammar d ≡ false
-    unfolding keepsGrammar
+    pub grammar_end : starts_with crlf (drop (length d - 2) d) ≡ false → keeps_grammar d ≡ false
+    unfolding keeps_grammar
     grammar_end e = rw (lt-ltb 25 (length d) h, start, e) refl
 
     pub grammar_digits :
-        starts_with crlf (drop (length d - 2) d) ≡ true → keepsGrammar d ≡ are_digits (slice 23 (length d - 2) d)
-    unfolding keepsGrammar
+        starts_with crlf (drop (length d - 2) d) ≡ true → keeps_grammar d ≡ are_digits (slice 23 (length d - 2) d)
+    unfolding keeps_grammar
     grammar_digits e = rw (lt-ltb 25 (length d) h, start, e) refl
 
--- ---- groupIn, by what was looked at
+-- ---- group_in, by what was looked at
 
-pub group_not_kept : (d : List ℕ) → keepsGrammar d ≡ false → groupIn d ≡ SyncGroup.Refused bad_line
-unfolding groupIn
+pub group_not_kept : (d : List ℕ) → keeps_grammar d ≡ false → group_in d ≡ SyncGroup.Refused bad_line
+unfolding group_in
 group_not_kept d e = rw e refl
 
 -- by the length of the line
-pub few_digits : (d : List ℕ) → length d ≤ 35 → areTooMany (digits_in d) ≡ false
+pub few_digits : (d : List ℕ) → length d ≤ 35 → are_too_many (digits_in d) ≡ false
 few_digits d h = le-ltb 10 (length (digits_in d)) (omega (arith, count_digits d))
 
-pub many_digits : (d : List ℕ) → 35 < length d → areTooMany (digits_in d) ≡ true
+pub many_digits : (d : List ℕ) → 35 < length d → are_too_many (digits_in d) ≡ true
 many_digits d h = lt-ltb 10 (length (digits_in d)) (omega (arith, count_digits d))
 
-module _ (d : List ℕ) (e : keepsGrammar d ≡ true) where
-  pub group-long : areTooMany (digits_in d) ≡ true → groupIn d ≡ SyncGroup.Refused bad_group
-  unfolding groupIn
+module _ (d : List ℕ) (e : keeps_grammar d ≡ true) where
+  pub group-long : are_too_many (digits_in d) ≡ true → group_in d ≡ SyncGroup.Refused bad_group
+  unfolding group_in
   group-long many = rw (e, many) refl
 
-  module _ (few : areTooMany (digits_in d) ≡ false) where
-    pub group_great : greatest_group < value_of (digits_in d) → groupIn d ≡ SyncGroup.Refused bad_group
-    unfolding groupIn
+  module _ (few : are_too_many (digits_in d) ≡ false) where
+    pub group_great : greatest_group < value_of (digits_in d) → group_in d ≡ SyncGroup.Refused bad_group
+    unfolding group_in
     group_great h = rw (e, few, lt-ltb greatest_group (value_of (digits_in d)) h) refl
 
-    pub group-read : value_of (digits_in d) ≤ greatest_group → groupIn d ≡ SyncGroup.Group (value_of (digits_in d))
-    unfolding groupIn
+    pub group-read : value_of (digits_in d) ≤ greatest_group → group_in d ≡ SyncGroup.Group (value_of (digits_in d))
+    unfolding group_in
     group-read h = rw (e, few, le-ltb greatest_group (value_of (digits_in d)) h) refl

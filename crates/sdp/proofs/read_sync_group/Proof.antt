@@ -9,7 +9,7 @@ use borrow.Author.Rules.{rules}
 use borrow.Author.Tests.{not-true, not-false, ltb-true, ltb-false}
 use Rattle.sdp.specs.declared.SyncGroup.{SyncGroup}
 use Rattle.sdp.specs.Line.{digits_in}
-use Rattle.sdp.specs.Answers.{keepsGrammar, areTooMany}
+use Rattle.sdp.specs.Answers.{keeps_grammar, are_too_many}
 use Rattle.sdp.proofs.Laws.Line.{
   kept,
   few_digits,
@@ -42,10 +42,10 @@ abbrev line_at : Grammar-kept → List ℕ
 line_at c = c.before.before.before.args.line.now
 
 -- past the first test the grammar is kept, and past the second there are at most ten digits
-kept_at : (c : Grammar-kept) → keepsGrammar (line_at c) ≡ true
+kept_at : (c : Grammar-kept) → keeps_grammar (line_at c) ≡ true
 kept_at c = sym c.before.keeps-grammar.ensures ∙ not-false _ c.if1.false
 
-few-at : (c : Digits-few) → areTooMany (digits_in (line_at c.before)) ≡ false
+few-at : (c : Digits-few) → are_too_many (digits_in (line_at c.before)) ≡ false
 few-at c =
     let d = line_at c.before in
     few_digits d (omega (arith, ltb-false _ (length d) c.if2.false))

@@ -21,7 +21,7 @@ use Rattle.register.proofs.Unique.{unique-permuted}
 use Rattle.register.proofs.Letter.Members.{alone}
 use Rattle.register.proofs.Tallies.{length-rows, record_member, tally_none, tally_after_lem, number_of_row}
 use Rattle.choosing.specs.Marked.{nobody, marked_at, filter_word}
-use Rattle.choosing.proofs.Laws.Marked.{row_at, rows_of_marked, marked_filter_word, filter_word-rows_lem}
+use Rattle.choosing.proofs.Laws.Marked.{row_at, rows_of_marked, marked_filter_word, filter_word_rows_lem}
 use Rattle.table.specs.declared.Table.{Table}
 use Rattle.table.specs.Members.{opening_of, members_of, records_in, place_in}
 use Rattle.table.specs.Calls.{is_member, is_elsewhere, is_without_room, number_of, accepted_by, answered}
@@ -139,7 +139,7 @@ module _ (o : Opening) (t : Table) (ms : Members) (h : Holds o t (records_of ms)
       let fresh : Record → Bool = fresh_at (opening_of t) at in
       let word : filter_word fresh t.held (records_in t)
       ≡ filter_word (λ m. fresh m.«record») t.held t.members =
-      filter_word-rows_lem fresh t.held t.members in
+      filter_word_rows_lem fresh t.held t.members in
       let kept : marked_at (filter_word fresh t.held (records_in t)) t.members
       ≡ filter (λ m. fresh m.«record») (members_of t) =
       ap (λ (w : ℕ). marked_at w t.members) word
