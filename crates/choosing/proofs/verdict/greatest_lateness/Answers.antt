@@ -1,0 +1,28 @@
+-- After i places the greatest of the rows so far. The measure is how many places are left.
+use Prim.Native.Nat.{◌-◌, ◌≤◌, ◌<◌}
+use lib.ListN.{length}
+use native.Mathlib.Omega.{arith}
+use Rattle.register.specs.Tallies.{records_of}
+use Rattle.register.proofs.Tallies.{length-rows}
+use Rattle.choosing.proofs.Laws.Marked.{row_at}
+use Rattle.choosing.proofs.Laws.Verdict.{GreatestSoFar, greatest-start, greatest-part, greatest-step}
+use Rattle.choosing.proofs.Laws.Verdict.{greatest_end}
+use Rattle.choosing.proofs.verdict.greatest_lateness.Goals as goal
+
+pub loop-i-init : goal.loop-i-init
+loop-i-init c = (omega arith, greatest-start)
+
+pub greatest_next-most-requires : goal.greatest_next-most-requires
+greatest_next-most-requires c = greatest-part c.loop-i.invariant.1
+
+pub loop-i-preserved : goal.loop-i-preserved
+loop-i-preserved c =
+    let ms = c.args.t2 in
+    let within : c.loop-i.i < length (records_of ms) = omega (arith, c.well_formed, length-rows ms) in
+    (omega arith, greatest-step within c.loop-i.invariant.1 (rw (← row_at ms c.loop-i.i) at c.greatest_next-most.ensures))
+
+pub returns : goal.returns
+returns c =
+    let ms = c.args.t2 in
+    let all : length (records_of ms) ≤ c.loop-i.i = omega (arith, c.well_formed, length-rows ms) in
+    greatest_end all c.loop-i.invariant.1

@@ -1,0 +1,30 @@
+-- A refusal is handed on, too short a list gets 10, and else every call is made: one law for each.
+use mathlib.Core.Path.{sym, ◌∙◌}
+use native.Mathlib.Omega.{arith}
+use Rattle.intake.proofs.Laws.{length_calls, answered-refused, answered-short, answered-all}
+use Rattle.intake.proofs.take_datagram.Goals as goal
+
+pub returns-then-answers-calls : goal.returns-then-answers-calls
+returns-then-answers-calls c =
+    let args = c.args in
+    answered-short args.t args.reduced args.d.now args.origin args.at args.answers.now _ _ _
+    (sym c.open_datagram.ensures ∙ c.in-Items.is) c.count_calls-calls.ensures c.if-answers-calls.true
+
+pub make_calls-requires : goal.make_calls-requires
+make_calls-requires c =
+    let args = c.args in
+    let many : _ = c.count_calls-calls.ensures ∙ sym (length_calls args.origin args.at _) in
+    omega (arith, c.if-answers-calls.false, many)
+
+pub returns-in-Refused : goal.returns-in-Refused
+returns-in-Refused c =
+    let args = c.args in
+    answered-refused args.t args.reduced args.d.now args.origin args.at args.answers.now _
+    (sym c.open_datagram.ensures ∙ c.in-Refused.is)
+
+pub returns-else-answers-calls : goal.returns-else-answers-calls
+returns-else-answers-calls c =
+    let args = c.args in
+    answered-all args.t args.reduced args.d.now args.origin args.at args.answers.now _ _ _
+    (sym c.open_datagram.ensures ∙ c.in-Items.is) c.count_calls-calls.ensures _ _
+    c.if-answers-calls.false c.make_calls.ensures.0 c.make_calls.ensures.1

@@ -1,0 +1,16 @@
+-- The bytes before i are alike, so the rest decides. The measure is how many are left.
+use Prim.Native.Nat.{◌-◌, ◌≤◌}
+use mathlib.Core.Path.{◌≡◌, refl, sym, ◌∙◌}
+use lib.ListN.{drop}
+use native.Mathlib.Omega.{arith}
+use Rattle.origin.specs.Origins.{same_bytes}
+use Rattle.origin.proofs.Laws.{same_unlike, same_alike, same_end}
+use Rattle.origin.proofs.same_address.Given as goal
+
+abbrev pub invariant-loop-i : goal.invariant-loop-i
+invariant-loop-i l =
+    (l.i ≤ 16) × (same_bytes (drop l.i l.a) (drop l.i l.b) ≡ same_bytes l.a l.b)
+
+abbrev pub decreases-loop-i : goal.decreases-loop-i
+decreases-loop-i l =
+    16 - l.i

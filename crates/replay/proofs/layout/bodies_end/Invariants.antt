@@ -1,0 +1,16 @@
+-- The end after i bodies, with what is left to add. The measure is how many are left.
+use Prim.Native.Nat.{ℕ, ◌+◌, ◌-◌, ◌*◌, ◌≤◌, ◌<◌}
+use mathlib.Core.Path.{◌≡◌, sym, ap, ◌∙◌}
+use native.Mathlib.Omega.{arith}
+use Rattle.replay.specs.Recording.{entry_place, body_length, bodies_end}
+use Rattle.replay.proofs.Laws.Layout.{bodies_none, bodies_next}
+use Rattle.replay.proofs.layout.bodies_end.Given as goal
+
+abbrev pub invariant-loop-i : goal.invariant-loop-i
+invariant-loop-i l =
+    (l.i ≤ l.n) × (l.end ≤ entry_place l.n + 65535 * l.i)
+    × (bodies_end l.f (l.n - l.i) (entry_place l.i) l.end ≡ bodies_end l.f l.n (entry_place 0) (entry_place l.n))
+
+abbrev pub decreases-loop-i : goal.decreases-loop-i
+decreases-loop-i l =
+    l.n - l.i

@@ -1,0 +1,77 @@
+-- A refusal changes nothing, and else every entry is run: one law for each return.
+use mathlib.Core.Path.{sym, ap, ◌∙◌}
+use native.Mathlib.Omega.{arith}
+use Rattle.table.specs.declared.Answered.{Answered}
+use Rattle.table.specs.Members.{sources_of}
+use Rattle.replay.proofs.Laws.Layout.{good_layout}
+use Rattle.replay.proofs.Laws.Left.{positive}
+use Rattle.replay.proofs.Laws.Replayed.{opened_sources, replayed_layout, replayed-opening, replayed-short}
+use Rattle.replay.proofs.Laws.Replayed.{replayed-none, replayed_entries, opening-read}
+use Rattle.replay.proofs.replay.Goals as goal
+
+pub returns-then-is_bad_layout : goal.returns-then-is_bad_layout
+returns-then-is_bad_layout c = replayed_layout _ _ (sym c.is_bad_layout.ensures ∙ c.if-is_bad_layout.true)
+
+pub read32-n-requires : goal.read32-n-requires
+read32-n-requires c =
+    omega (arith, (good_layout _ (sym c.is_bad_layout.ensures ∙ c.if-is_bad_layout.false)).head)
+
+pub read32-requires : goal.read32-requires
+read32-requires c =
+    omega (arith, (good_layout _ (sym c.is_bad_layout.ensures ∙ c.if-is_bad_layout.false)).head)
+
+pub read32-requires-2 : goal.read32-requires-2
+read32-requires-2 c =
+    omega (arith, (good_layout _ (sym c.is_bad_layout.ensures ∙ c.if-is_bad_layout.false)).head)
+
+pub read32-requires-3 : goal.read32-requires-3
+read32-requires-3 c =
+    omega (arith, (good_layout _ (sym c.is_bad_layout.ensures ∙ c.if-is_bad_layout.false)).head)
+
+pub returns-then-opened-ne0 : goal.returns-then-opened-ne0
+returns-then-opened-ne0 c =
+    replayed-opening _ _ (sym c.is_bad_layout.ensures ∙ c.if-is_bad_layout.false) _
+    (c.«open».ensures.__UNKNOWN
+    ∙ opening-read _ c.read32.ensures c.read32-2.ensures
+    c.read32-3.ensures)
+    c.if-opened-ne0.true
+
+pub returns-then-rows-n : goal.returns-then-rows-n
+returns-then-rows-n c =
+    replayed-short _ _ (sym c.is_bad_layout.ensures ∙ c.if-is_bad_layout.false) _
+    (c.«open».ensures.__UNKNOWN
+    ∙ opening-read _ c.read32.ensures c.read32-2.ensures
+    c.read32-3.ensures)
+    c.if-opened-ne0.false _ c.read32-n.ensures c.if-rows-n.true
+
+pub returns-then-n-eq0 : goal.returns-then-n-eq0
+returns-then-n-eq0 c =
+    replayed-none _ _ (sym c.is_bad_layout.ensures ∙ c.if-is_bad_layout.false) _
+    (c.«open».ensures.__UNKNOWN
+    ∙ opening-read _ c.read32.ensures c.read32-2.ensures
+    c.read32-3.ensures)
+    c.if-opened-ne0.false _ c.read32-n.ensures
+    c.if-rows-n.false c.if-n-eq0.true
+
+pub run_entries-requires : goal.run_entries-requires
+run_entries-requires c =
+    let opens : _ =
+    c.«open».ensures.__UNKNOWN
+    ∙ opening-read _ c.read32.ensures c.read32-2.ensures
+    c.read32-3.ensures in (
+      ap (λ (a : Answered). sources_of a.table.members) opens ∙ opened_sources _,
+      sym c.is_bad_layout.ensures ∙ c.if-is_bad_layout.false,
+      c.read32-n.ensures,
+      positive _ c.if-n-eq0.false,
+      c.if-rows-n.false,
+    )
+
+pub returns : goal.returns
+returns c =
+    replayed_entries _ _ (sym c.is_bad_layout.ensures ∙ c.if-is_bad_layout.false) _
+    (c.«open».ensures.__UNKNOWN
+    ∙ opening-read _ c.read32.ensures c.read32-2.ensures
+    c.read32-3.ensures)
+    c.if-opened-ne0.false _
+    c.read32-n.ensures
+    c.if-rows-n.false _ _ c.run_entries.ensures.0 c.run_entries.ensures.1

@@ -1,0 +1,18 @@
+-- The digits that are left to put, and behind them those that were put, make up all ten. The measure is how many are
+-- left.
+use Prim.Native.Nat.{ℕ, ◌-◌, ◌≤◌}
+use mathlib.Core.List.{◌++◌, append-nil}
+use mathlib.Core.Path.{◌≡◌, refl, sym, ap, ◌∙◌}
+use lib.ListN.{length, drop, length-set}
+use native.Mathlib.Omega.{arith}
+use Rattle.sdp.specs.Digits.{digits_of}
+use Rattle.sdp.proofs.Laws.Digits.{digit_put}
+use Rattle.sdp.proofs.ten_digits.Given as goal
+
+abbrev pub invariant-loop-i : goal.invariant-loop-i
+invariant-loop-i l =
+    (l.i ≤ 10) × (length l.digits ≡ 10) × (digits_of l.i l.rest ++ drop l.i l.digits ≡ digits_of 10 l.n)
+
+abbrev pub decreases-loop-i : goal.decreases-loop-i
+decreases-loop-i l =
+    l.i

@@ -1,0 +1,32 @@
+-- What the digits so far spell, moved to its place, and the rest make up the whole number. Ten digits fit: before each
+-- there are nine at most. The measure is how many digits are left.
+use Prim.Native.Nat.{◌+◌, ◌-◌, ◌*◌, ◌^◌, ◌≤◌, ◌<◌}
+use mathlib.Core.Bool.{true}
+use mathlib.Core.Path.{◌≡◌, sym, ◌∙◌}
+use lib.ListN.{get_or}
+use lib.Seq.{slice}
+use native.Mathlib.Omega.{arith}
+use Rattle.sdp.specs.Digits.{are_digits, value_of}
+use Rattle.sdp.proofs.Laws.Digits.{
+  digit_at,
+  digits_rest,
+  value_step,
+  value_end,
+  grown,
+  nine_digits,
+}
+use Rattle.sdp.proofs.value_at.Reads as reads
+use Rattle.sdp.proofs.value_at.Lts as lts
+use Rattle.sdp.proofs.value_at.Given as goal
+
+abbrev pub invariant-loop-i : goal.invariant-loop-i
+invariant-loop-i l =
+    (l.from ≤ l.i)
+    × (l.i ≤ l.to)
+    × (are_digits (slice l.i l.to l.line) ≡ true)
+    × (l.n < 10 ^ (l.i - l.from))
+    × (l.n * 10 ^ (l.to - l.i) + value_of (slice l.i l.to l.line) ≡ value_of (slice l.from l.to l.line))
+
+abbrev pub decreases-loop-i : goal.decreases-loop-i
+decreases-loop-i l =
+    l.to - l.i
