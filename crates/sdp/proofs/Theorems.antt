@@ -1,5 +1,5 @@
 -- What document 02 promises of the SDP line (E1), over the definitions that the contracts of reader and writer cite.
-use Prim.Native.Nat.{ℕ, ◌+◌, ◌^◌, ◌≤◌, ◌<◌}
+use Prim.Native.Nat.{ℕ, ◌^◌, ◌≤◌, ◌<◌}
 use mathlib.Core.Bool.{Bool, true, false, false≢true}
 use mathlib.Core.List.{List, ◌++◌}
 use mathlib.Core.Logic.{◌⊎◌, inl, inr}
@@ -56,7 +56,8 @@ group_bad d e (inr great) = go (ltb most_digits (length (digits_in d))) refl
 
 -- Every answer of the reader says what is so.
 pub read_says : (d : List ℕ) → LineSays d (group_in d)
-read_says d = go (keeps_grammar d) refl (ltb most_digits (length digits)) refl (ltb greatest_group (value_of digits)) refl
+read_says d =
+    go (keeps_grammar d) refl (ltb most_digits (length digits)) refl (ltb greatest_group (value_of digits)) refl
   where
     digits : List ℕ
     digits = digits_in d
@@ -174,7 +175,8 @@ written_apart a b m n buf buf' other other' w v e =
 -- ---- read, then written
 
 -- The line of the number that was read is that line with its leading zeros gone.
-pub line_again : (d : List ℕ) (group : ℕ) → group_in d ≡ SyncGroup.Group group → group_line group ≡ line_without_leading_zeros d
+pub line_again :
+    (d : List ℕ) (group : ℕ) → group_in d ≡ SyncGroup.Group group → group_line group ≡ line_without_leading_zeros d
 line_again d group e =
     let says : LineSays d (SyncGroup.Group group) = subst (LineSays d) e (read_says d) in
     let digits = says.0 in
@@ -204,7 +206,8 @@ read-written d group buf buf' answer e h w =
 -- So the very bytes of a line that had no leading zeros.
 pub read_written_same :
     (d : List ℕ) (group : ℕ) (buf buf' : List ℕ) (answer : Written) → group_in d ≡ SyncGroup.Group group
-    → has_leading_zero (digits_in d) ≡ false → length d ≤ length buf → WroteMessage (group_message group) buf answer buf'
+    → has_leading_zero (digits_in d) ≡ false → length d ≤ length buf
+    → WroteMessage (group_message group) buf answer buf'
     → (answer ≡ Written.Bytes (length d)) × (buf' ≡ d ++ drop (length d) buf)
 read_written_same d group buf buf' answer e none h w =
     let says : LineSays d (SyncGroup.Group group) = subst (LineSays d) e (read_says d) in

@@ -49,7 +49,8 @@ module _ (group zeros : ℕ) (digits : List ℕ) (e : digits ≡ digits_of 10 gr
 
 -- ---- keeps_grammar
 
-pub line_kept : (digits : List ℕ) → 1 ≤ length digits → are_digits digits ≡ true → keeps_grammar (sdp_line digits) ≡ true
+pub line_kept :
+    (digits : List ℕ) → 1 ≤ length digits → are_digits digits ≡ true → keeps_grammar (sdp_line digits) ≡ true
 unfolding keeps_grammar
 line_kept digits some each =
     rw (

@@ -1,10 +1,6 @@
 -- What was passed are digits, so the rest decides. The measure is how many bytes are left.
-use Prim.Native.Nat.{◌-◌, ◌≤◌}
-use mathlib.Core.Path.{◌≡◌, refl, sym, ◌∙◌}
-use lib.Seq.{slice}
+use mathlib.Core.Path.{refl, sym, ◌∙◌}
 use native.Mathlib.Omega.{arith}
-use borrow.Author.Tests.{not-true, not-false}
-use Rattle.sdp.specs.Digits.{are_digits}
 use Rattle.sdp.proofs.Laws.Digits.{not_digits, digit_passed, digits_end}
 use Rattle.sdp.proofs.are_digits.Goals as goal
 
@@ -18,7 +14,7 @@ bounds-line-i c =
 pub returns-then-not-is_digit : goal.returns-then-not-is_digit
 returns-then-not-is_digit c =
     let a = c.args in
-    let other : _ = sym c.is_digit.ensures ∙ not-true _ c.if-not-is_digit.true in
+    let other : _ = sym c.is_digit.ensures ∙ c.if-not-is_digit.true in
     sym (not_digits a.line.now c.loop-i.i a.to c.loop-i-test.true c.requires.1 other)
     ∙ c.loop-i.invariant.1
 
@@ -31,7 +27,7 @@ loop-i-smaller c = omega arith
 pub loop-i-preserved : goal.loop-i-preserved
 loop-i-preserved c =
     let a = c.args in
-    let digit : _ = sym c.is_digit.ensures ∙ not-false _ c.if-not-is_digit.false in (
+    let digit : _ = sym c.is_digit.ensures ∙ c.if-not-is_digit.false in (
       omega arith,
       sym (digit_passed a.line.now c.loop-i.i a.to c.loop-i-test.true c.requires.1 digit)
           ∙ c.loop-i.invariant.1,

@@ -1,11 +1,8 @@
 -- What was passed are digits, so the rest decides. The measure is how many bytes are left.
 use Prim.Native.Nat.{◌-◌, ◌≤◌}
-use mathlib.Core.Path.{◌≡◌, refl, sym, ◌∙◌}
+use mathlib.Core.Path.{◌≡◌}
 use lib.Seq.{slice}
-use native.Mathlib.Omega.{arith}
-use borrow.Author.Tests.{not-true, not-false}
 use Rattle.sdp.specs.Digits.{are_digits}
-use Rattle.sdp.proofs.Laws.Digits.{not_digits, digit_passed, digits_end}
 use Rattle.sdp.proofs.are_digits.Given as goal
 
 abbrev pub invariant-loop-i : goal.invariant-loop-i

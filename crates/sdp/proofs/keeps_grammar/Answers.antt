@@ -1,7 +1,6 @@
 -- The tests in their order: each return has the law of its case.
 use mathlib.Core.Path.{sym, ◌∙◌}
 use native.Mathlib.Omega.{arith}
-use borrow.Author.Tests.{not-true, not-false}
 use Rattle.sdp.proofs.Laws.Line.{grammar_short, grammar_start, grammar_end, grammar_digits}
 use Rattle.sdp.proofs.keeps_grammar.Goals as goal
 
@@ -15,7 +14,7 @@ pub returns-then-not-stands_at : goal.returns-then-not-stands_at
 returns-then-not-stands_at c =
     sym
     (grammar_start c.args.line.now (omega (arith, c.if-line.false))
-    (sym c.stands_at.ensures ∙ not-true _ c.if-not-stands_at.true))
+    (sym c.stands_at.ensures ∙ c.if-not-stands_at.true))
 
 pub overflow_sub-end : goal.overflow_sub-end
 overflow_sub-end c = omega (arith, c.if-line.false)
@@ -27,8 +26,8 @@ pub returns-then-not-stands_at-2 : goal.returns-then-not-stands_at-2
 returns-then-not-stands_at-2 c =
     sym
     (grammar_end c.args.line.now (omega (arith, c.if-line.false))
-    (sym c.stands_at.ensures ∙ not-false _ c.if-not-stands_at.false)
-    (sym c.stands_at-2.ensures ∙ not-true _ c.if-not-stands_at-2.true))
+    (sym c.stands_at.ensures ∙ c.if-not-stands_at.false)
+    (sym c.stands_at-2.ensures ∙ c.if-not-stands_at-2.true))
 
 pub are_digits-requires : goal.are_digits-requires
 are_digits-requires c =
@@ -39,5 +38,5 @@ returns c =
     c.are_digits.ensures
     ∙ sym
     (grammar_digits c.args.line.now (omega (arith, c.if-line.false))
-    (sym c.stands_at.ensures ∙ not-false _ c.if-not-stands_at.false)
-    (sym c.stands_at-2.ensures ∙ not-false _ c.if-not-stands_at-2.false))
+    (sym c.stands_at.ensures ∙ c.if-not-stands_at.false)
+    (sym c.stands_at-2.ensures ∙ c.if-not-stands_at-2.false))

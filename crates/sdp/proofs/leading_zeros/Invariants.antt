@@ -1,10 +1,8 @@
 -- The digits before i are zeros, with others behind them. The measure is how many are left before the last.
 use Prim.Native.Nat.{◌-◌, ◌≤◌}
-use mathlib.Core.Path.{◌≡◌, refl, sym, ◌∙◌}
+use mathlib.Core.Path.{◌≡◌}
 use lib.ListN.{drop}
-use native.Mathlib.Omega.{arith}
 use Rattle.sdp.specs.Digits.{without_leading_zeros}
-use Rattle.sdp.proofs.Laws.Digits.{zero-passed, zeros-passed, last_kept}
 use Rattle.sdp.proofs.leading_zeros.Given as goal
 
 abbrev pub invariant-loop-i : goal.invariant-loop-i

@@ -1,9 +1,9 @@
 -- The digits that are left to put, and behind them those that were put, make up all ten. The measure is how many are
 -- left.
-use Prim.Native.Nat.{ℕ, ◌-◌, ◌≤◌}
+use Prim.Native.Nat.{ℕ}
 use mathlib.Core.List.{◌++◌, append-nil}
 use mathlib.Core.Path.{◌≡◌, refl, sym, ap, ◌∙◌}
-use lib.ListN.{length, drop, length-set}
+use lib.ListN.{drop, length-set}
 use native.Mathlib.Omega.{arith}
 use Rattle.sdp.specs.Digits.{digits_of}
 use Rattle.sdp.proofs.Laws.Digits.{digit_put}
@@ -30,8 +30,10 @@ loop-i-smaller c = omega arith
 pub loop-i-preserved : goal.loop-i-preserved
 loop-i-preserved c = (
   omega arith,
-  length-set c.loop-i.digits (c.loop-i.i - 1) _ ∙ c.loop-i.invariant.1,
-  digit_put c.loop-i.i c.loop-i.rest c.loop-i.digits c.loop-i-test.true (omega (arith, c.loop-i.invariant.0, c.loop-i.invariant.1)) ∙ c.loop-i.invariant.2,
+  length-set c.loop-i.digits _ _ ∙ c.loop-i.invariant.1,
+  digit_put c.loop-i.i c.loop-i.rest c.loop-i.digits c.loop-i-test.true
+      (omega (arith, c.loop-i.invariant.0, c.loop-i.invariant.1))
+      ∙ c.loop-i.invariant.2,
 )
 
 pub returns : goal.returns

@@ -1,12 +1,10 @@
 -- The digits that are left to put, and behind them those that were put, make up all ten. The measure is how many are
 -- left.
-use Prim.Native.Nat.{ℕ, ◌-◌, ◌≤◌}
-use mathlib.Core.List.{◌++◌, append-nil}
-use mathlib.Core.Path.{◌≡◌, refl, sym, ap, ◌∙◌}
-use lib.ListN.{length, drop, length-set}
-use native.Mathlib.Omega.{arith}
+use Prim.Native.Nat.{◌≤◌}
+use mathlib.Core.List.{◌++◌}
+use mathlib.Core.Path.{◌≡◌}
+use lib.ListN.{length, drop}
 use Rattle.sdp.specs.Digits.{digits_of}
-use Rattle.sdp.proofs.Laws.Digits.{digit_put}
 use Rattle.sdp.proofs.ten_digits.Given as goal
 
 abbrev pub invariant-loop-i : goal.invariant-loop-i

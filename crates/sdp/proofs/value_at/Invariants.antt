@@ -2,21 +2,9 @@
 -- there are nine at most. The measure is how many digits are left.
 use Prim.Native.Nat.{◌+◌, ◌-◌, ◌*◌, ◌^◌, ◌≤◌, ◌<◌}
 use mathlib.Core.Bool.{true}
-use mathlib.Core.Path.{◌≡◌, sym, ◌∙◌}
-use lib.ListN.{get_or}
+use mathlib.Core.Path.{◌≡◌}
 use lib.Seq.{slice}
-use native.Mathlib.Omega.{arith}
 use Rattle.sdp.specs.Digits.{are_digits, value_of}
-use Rattle.sdp.proofs.Laws.Digits.{
-  digit_at,
-  digits_rest,
-  value_step,
-  value_end,
-  grown,
-  nine_digits,
-}
-use Rattle.sdp.proofs.value_at.Reads as reads
-use Rattle.sdp.proofs.value_at.Lts as lts
 use Rattle.sdp.proofs.value_at.Given as goal
 
 abbrev pub invariant-loop-i : goal.invariant-loop-i
