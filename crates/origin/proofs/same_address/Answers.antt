@@ -14,7 +14,7 @@ pub returns-then-a-i : goal.returns-then-a-i
 returns-then-a-i c =
     let args = c.args in
     let bound = c.well_formed in
-    sym (same_unlike args.t1 args.t2 c.loop-i.i (omega (arith, bound)) (omega (arith, bound)) c.if-a-i.true)
+    sym (same_unlike args.a args.b c.loop-i.i (omega (arith, bound)) (omega (arith, bound)) c.if-a-i.true)
     ∙ c.loop-i.invariant.1
 
 pub overflow_add-i : goal.overflow_add-i
@@ -28,11 +28,11 @@ loop-i-preserved c =
     let args = c.args in
     let bound = c.well_formed in
     let next : _ =
-    same_alike args.t1 args.t2 c.loop-i.i (omega (arith, bound)) (omega (arith, bound)) c.if-a-i.false in
+    same_alike args.a args.b c.loop-i.i (omega (arith, bound)) (omega (arith, bound)) c.if-a-i.false in
     (omega arith, sym next ∙ c.loop-i.invariant.1)
 
 pub returns : goal.returns
 returns c =
     let args = c.args in
     let bound = c.well_formed in
-    sym (same_end args.t1 args.t2 c.loop-i.i (omega (arith, bound)) (omega (arith, bound))) ∙ c.loop-i.invariant.1
+    sym (same_end args.a args.b c.loop-i.i (omega (arith, bound)) (omega (arith, bound))) ∙ c.loop-i.invariant.1

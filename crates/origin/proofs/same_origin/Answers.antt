@@ -7,9 +7,9 @@ use Rattle.origin.proofs.same_origin.Goals as goal
 pub returns-then-not-same_address : goal.returns-then-not-same_address
 unfolding same_origin
 returns-then-not-same_address c =
-    let e : _ = sym c.same_address.ensures ∙ not-true c.same_address.result c.if-not-same_address.true in rw e refl
+    let e : _ = sym c.same_address.ensures ∙ c.if-not-same_address.true in rw e refl
 
 pub returns : goal.returns
 unfolding same_origin
 returns c =
-    let e : _ = sym c.same_address.ensures ∙ not-false c.same_address.result c.if-not-same_address.false in rw e refl
+    let e : _ = sym c.same_address.ensures ∙ c.if-not-same_address.false in rw e refl

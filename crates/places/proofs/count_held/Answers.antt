@@ -1,4 +1,5 @@
 -- The word's operation by the law `ones_held`.
+use borrow.Author.Rules.{rules}
 use Rattle.places.proofs.Laws.Free.{ones_held}
 use Rattle.places.proofs.count_held.Goals as goal
 

@@ -1,4 +1,5 @@
 -- The expression is the definition's, and what it means is the law `lowest_free-place`.
+use borrow.Author.Rules.{rules}
 use mathlib.Core.Path.{refl}
 use Rattle.places.specs.Places.{lowest_free}
 use Rattle.places.proofs.Laws.Free.{lowest_free-place}

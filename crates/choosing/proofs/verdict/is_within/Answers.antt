@@ -8,11 +8,11 @@ use Rattle.choosing.proofs.verdict.is_within.Goals as goal
 
 pub returns-then-not-is_as_late : goal.returns-then-not-is_as_late
 returns-then-not-is_as_late c =
-    rw (sym c.is_as_late.ensures ∙ not-true c.is_as_late.result c.if-not-is_as_late.true) refl
+    rw (sym c.is_as_late.ensures ∙ c.if-not-is_as_late.true) refl
 
 pub excess-requires : goal.excess-requires
 excess-requires c =
-    let as_late : _ = sym c.is_as_late.ensures ∙ not-false c.is_as_late.result c.if-not-is_as_late.false in
+    let as_late : _ = sym c.is_as_late.ensures ∙ c.if-not-is_as_late.false in
     (c.requires.0, c.requires.1, leb-true _ _ as_late)
 
 pub is_as_late-requires-2 : goal.is_as_late-requires-2
@@ -25,7 +25,7 @@ pub returns : goal.returns
 returns c =
     let x = c.args in
     within_excess x.late x.most c.excess.result c.allowed_by.result _ c.is_as_late.ensures
-    (not-false c.is_as_late.result c.if-not-is_as_late.false)
+    (c.if-not-is_as_late.false)
     c.excess.ensures
     c.allowed_by.ensures
     c.is_as_late-2.ensures

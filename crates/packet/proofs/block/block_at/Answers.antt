@@ -34,4 +34,4 @@ pub returns-in-0-to-11 : goal.returns-in-0-to-11
 returns-in-0-to-11 c =
     let a = c.args in
     ap (λ (words : ℕ). Block.Skipped (4 * (words + 1))) c.read16-words.ensures.0
-    ∙ sym (block_other a.d.now a.stop a.at c.if-d-stop.false (omega arith) c.in-0-to-11.rest.1)
+    ∙ sym (block_other a.d.now a.stop a.at c.if-d-stop.false (omega arith) c.in-0-to-11.in-0-to-11-own.rest.1)

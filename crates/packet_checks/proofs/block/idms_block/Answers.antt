@@ -9,7 +9,7 @@ pub returns-in-1 : goal.returns-in-1
 returns-in-1 c = rw (eq-eqb _ 7 c.if-words-ne7.false, eq-eqb _ 1 c.in-1.is)
 
 pub returns-in-0 : goal.returns-in-0
-returns-in-0 c = rw (eq-eqb _ 7 c.if-words-ne7.false, c.in-0.keys2)
+returns-in-0 c = rw (eq-eqb _ 7 c.if-words-ne7.false, c.in-0.in-0-own.keys2)
 
 pub returns-in-0-2 : goal.returns-in-0-2
-returns-in-0-2 c = rw (eq-eqb _ 7 c.if-words-ne7.false, ne_eqb _ 1 c.in-0.rest.0.1)
+returns-in-0-2 c = rw (eq-eqb _ 7 c.if-words-ne7.false, ne_eqb _ 1 c.in-0.in-0-own.rest.0.1)

@@ -26,9 +26,9 @@ returns-in-211 c = let e : c.args.number ≡ 211 = c.in-211.is in rw e
 
 pub returns-in-0-to-199 : goal.returns-in-0-to-199
 unfolding kind_of
-returns-in-0-to-199 c = let e : c.args.number ≡ 202 = c.in-0-to-199.keys6 in rw e
+returns-in-0-to-199 c = let e : c.args.number ≡ 202 = c.in-0-to-199.in-0-to-199-own.keys6 in rw e
 
 pub returns-in-0-to-199-2 : goal.returns-in-0-to-199-2
 returns-in-0-to-199-2 c =
-    let r = c.in-0-to-199.rest in
+    let r = c.in-0-to-199.in-0-to-199-own.rest in
     sym (kind_other _ _ r.0.0.0.0.0.1 r.0.0.0.0.1 r.0.0.0.1 r.0.0.1 r.0.1)
