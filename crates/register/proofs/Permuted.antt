@@ -141,6 +141,7 @@ pub precedes_member :
     (late : Record → ℤ) (a b : Record) (rows : Rows) → precedes_all late a rows ≡ true → Memᴰ b rows →
     precedes late a b ≡ true
 unfolding precedes_all
+precedes_member late a b [] e x'' = elim x'' [ ]
 precedes_member late a b (r ∷ rows) e (Memᴰ.head q) =
     ap (precedes late a) q ∙ ((and-eq-true_iff (precedes late a r) (precedes_all late a rows)).0 e).0
 precedes_member late a b (r ∷ rows) e (Memᴰ.tail m) =

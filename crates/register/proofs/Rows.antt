@@ -222,6 +222,7 @@ pub kept_member :
     {A : Type 0} (test : A → Bool) (x : A) (xs : List A) → Memᴰ x (filter test xs) →
     (test x ≡ true) × Memᴰ x xs
 unfolding filter
+kept_member {A = A} test x [] m = elim m [ ]
 kept_member test x (y ∷ ys) m = go (test y) refl m (kept_member test x ys)
   where
     go :
@@ -236,6 +237,7 @@ kept_member test x (y ∷ ys) m = go (test y) refl m (kept_member test x ys)
 pub member_kept :
     {A : Type 0} (test : A → Bool) (x : A) (xs : List A) → test x ≡ true → Memᴰ x xs → Memᴰ x (filter test xs)
 unfolding filter
+member_kept {A = A} test x [] e x3 = elim x3 [ ]
 member_kept test x (y ∷ ys) e (Memᴰ.head q) =
     rw (filter_yes test y ys (ap test (sym q) ∙ e)) (Memᴰ.head q)
 member_kept test x (y ∷ ys) e (Memᴰ.tail m) = go (test y) (member_kept test x ys e m)
@@ -249,6 +251,7 @@ pub length_filter_< :
     {A : Type 0} (test : A → Bool) (x : A) (xs : List A) → test x ≡ false → Memᴰ x xs →
     length (filter test xs) < length xs
 unfolding filter
+length_filter_< {A = A} test x [] e x3 = elim x3 [ ]
 length_filter_< test x (y ∷ ys) e (Memᴰ.head q) =
     omega (arith, length_filter_≤ test ys, ap length (filter_no test y ys (ap test (sym q) ∙ e)))
 length_filter_< test x (y ∷ ys) e (Memᴰ.tail m) = go (test y) (length_filter_< test x ys e m)

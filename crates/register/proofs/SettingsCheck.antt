@@ -357,7 +357,7 @@ row_settings sender row =
 -- the target of a choice, or another where there is none
 target_in : Target → Choice → Target
 target_in other (Choice.Target x) = x
-target_in other (Choice.Refused number) = other
+target_in other (Choice.Refused _) = other
 
 target_row :
     (sender : ℕ) (x : Target) (row : Record) (n : ℕ) → Choice.Target x ≡ target_of row n →

@@ -50,6 +50,7 @@ rows-set (first ∷ ms) (suc place) m = ap (λ (rows : Rows). first.«record» �
 
 pub record_member : (m : Member) (ms : Members) → Memᴰ m ms → Memᴰ m.«record» (records_of ms)
 unfolding records_of
+record_member m [] x' = elim x' [ ]
 record_member m (first ∷ ms) (Memᴰ.head q) = Memᴰ.head (ap (λ (x : Member). x.«record») q)
 record_member m (first ∷ ms) (Memᴰ.tail z) = Memᴰ.tail (record_member m ms z)
 

@@ -68,6 +68,10 @@ reports_commute :
     (o : Opening) (ms : Members) (a b : Call) → FromDifferentSources a b → Accepts o ms (a ∷ b ∷ []) →
     Swapped o ms (a ∷ []) (b ∷ [])
 unfolding answers AllAccepted members_after_all
+reports_commute o ms (Call.report x at) (Call.farewell _ _) apart all = elim apart [ ]
+reports_commute o ms (Call.report x at) (Call.sweep _) apart all = elim apart [ ]
+reports_commute o ms (Call.farewell _ _) b apart all = elim apart [ ]
+reports_commute o ms (Call.sweep _) b apart all = elim apart [ ]
 reports_commute o ms (Call.report x at) (Call.report y then) apart all =
     let behind : answer o (renewed (records_of ms) x) (Call.report y then) ≡ 0 =
     ap (λ (rs : Rows). answer o rs (Call.report y then))

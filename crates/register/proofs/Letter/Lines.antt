@@ -129,6 +129,8 @@ ruled_out earlier never number (line ∷ lines) apart =
 first_apart :
     (number : ℕ) (lines : List Line) (ts : List Bool) → AllTell lines ts → is_apart number lines ≡ true →
     first_number lines ts ≡ number → ⊥
+first_apart number [] (t ∷ ts) tell apart e = elim tell [ ]
+first_apart number (line ∷ lines) [] tell apart e = elim tell [ ]
 first_apart number [] [] tell apart e = differs number 0 apart (sym e)
 first_apart number (line ∷ lines) (t ∷ ts) tell apart e = go t (first_apart number lines ts tell.1 both.1) e
   where
@@ -144,6 +146,8 @@ first_means_behind :
     (earlier : List Line) → NoneOf earlier → (lines : List Line) (ts : List Bool) → AllTell lines ts →
     are_apart lines ≡ true → MeansBehind earlier lines (first_number lines ts)
 unfolding MeansBehind
+first_means_behind earlier none [] (_ ∷ ts) tell apart = elim tell [ ]
+first_means_behind earlier none (line ∷ lines) [] tell apart = elim tell [ ]
 first_means_behind earlier none [] [] tell apart = (λ e. none, λ n. refl)
 first_means_behind earlier none (line ∷ lines) (true ∷ ts) tell apart =
     let both : _ = and_true (is_apart line.number lines) (are_apart lines) apart in

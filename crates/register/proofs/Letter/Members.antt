@@ -124,6 +124,7 @@ stands_more o h e x = (earlier, ⊎_elim anew still)
         }
       where
         own : (f : Event) → Memᴰ f (e ∷ []) → Ends o x f → ⊥
+        own f (Memᴰ.tail x6) ends = elim x6 [ ]
         own f (Memᴰ.head q) ends = both.1 (rw q at ends)
 
 -- ---- which rows a call leaves

@@ -1,7 +1,7 @@
 -- The letter's sentences hold of the plain register: by induction over the calls, its rows are all that stand, and the
 -- tallies beside them the history's.
 use Prim.Native.Nat.{ℕ}
-use mathlib.Core.Bool.{Bool, true, false, not, cond, and_true}
+use mathlib.Core.Bool.{Bool, true, false, not, cond, and-true}
 use mathlib.Core.List.{List, [], ◌∷◌, ◌++◌, append_assoc, append-nil, Memᴰ}
 use mathlib.Core.Logic.{inl, inr, ⊎_elim, ◌↔◌}
 use mathlib.Core.Path.{◌≡◌, refl, sym, ap, ap₂, subst, ◌∙◌}
@@ -233,7 +233,7 @@ twin_tallied o ms call m kept member twin refused =
     rw (after-refused o (records_of ms) call refused) both.0 in
     let own : tally_after o ms call x.source ≡ (tallied (answer o (records_of ms) call) m).tally =
     rw (twin_under x call twin, ← both.1) (ap (λ (t : Bool). cond t (raised m.tally) m.tally)
-    (and_true (eqb (answer o (records_of ms) call) other_origin))) in
+    (and-true (eqb (answer o (records_of ms) call) other_origin))) in
     (kept_after o ms call (tallied (answer o (records_of ms) call) m)).1
     (rw (rows-after o ms call) row, sym (tally_after_lem o ms call x.source (number_of_row x _ row) ∙ own))
 

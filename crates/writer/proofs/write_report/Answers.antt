@@ -3,7 +3,6 @@ use Prim.Native.Nat.{◌≤◌}
 use mathlib.Core.Path.{sym, ap, ◌∙◌}
 use native.Mathlib.Omega.{arith}
 use lib.ListN.{length}
-use borrow.Author.Tests.{ltb-true, ltb-false}
 use Rattle.buffer.proofs.Laws.{message_refused, message_short, message_written}
 use Rattle.rtcp.specs.Puts.{puts}
 use Rattle.rtcp.proofs.Laws.Puts.{puts_front}
@@ -20,7 +19,7 @@ pub returns-then-short : goal.returns-then-short
 returns-then-short c =
     let args = c.args in
     message_short (report_message args.r) args.buf.now (sym c.is_unwritable-out.ensures ∙ c.if-out.false)
-    (ltb-true _ 40 c.if-short.true)
+    c.if-short.true
 
 pub words_of_report-words-requires : goal.words_of_report-words-requires
 words_of_report-words-requires c =
@@ -29,13 +28,13 @@ words_of_report-words-requires c =
 pub put_words-requires : goal.put_words-requires
 put_words-requires c =
     let buf = c.args.buf.now in
-    omega (arith, ltb-false (length buf) 40 c.if-short.false)
+    omega (arith, c.if-short.false)
 
 pub returns : goal.returns
 returns c =
     let args = c.args in
     let buf = args.buf.now in
-    let room : 40 ≤ length buf = ltb-false _ 40 c.if-short.false in
+    let room : 40 ≤ length buf = c.if-short.false in
     let m : _ =
     message_written (report_message args.r) buf (sym c.is_unwritable-out.ensures ∙ c.if-out.false) room in (
       m.0,

@@ -106,7 +106,7 @@ loop-place-preserved c =
     (sym c.report_at.ensures ∙ c.in-Fields.is) in (
       t.later,
       filling_row c.loop-place.invariant.1 (record { place = c.loop-place.place; item = Item.Report (report_at a.d.now a.sender c.loop-place.place) })
-          (blocks_items a.d.now a.sender a.stop (c.loop-place.place + 32)) c.put_row.new.0 t.all c.requires.1
+          (blocks_items a.d.now a.sender a.stop (c.loop-place.place + 32)) c.put_row.new.rows t.all c.requires.1
           (c.put_row.ensures
           ∙ ap (λ (x : Report). paste c.loop-place.rows c.loop-place.cell (row_of (record { place = c.loop-place.place; item = Item.Report x })) 10) f),
     )

@@ -68,7 +68,7 @@ loop-cell-preserved c =
     c.next_place-p.ensures ∙ ap behind x ∙ behind-contents d p t.known in
     rw b' (
       t.later,
-      filling_part c.loop-cell.invariant.1 (packet_items d p) (packets_items d (p + size d p)) c.fill_packet-cell.new.1.0
+      filling_part c.loop-cell.invariant.1 (packet_items d p) (packets_items d (p + size d p)) c.fill_packet-cell.new.rows
           c.fill_packet-cell.result t.items (omega (arith, c.requires.1, c.requires.2)) c.fill_packet-cell.ensures.1
           c.fill_packet-cell.ensures.0,
     )

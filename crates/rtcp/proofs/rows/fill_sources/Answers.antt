@@ -65,7 +65,7 @@ loop-k-preserved c =
     (sym c.source_at.ensures ∙ c.in-Number.is) in (
       omega (arith, c.loop-k.invariant.0),
       filling_row c.loop-k.invariant.1 (farewell_item a.d.now c.loop-k.k)
-          (source_items a.d.now a.stop (c.loop-k.k + 4)) c.put_row.new.0
+          (source_items a.d.now a.stop (c.loop-k.k + 4)) c.put_row.new.rows
           (sources_part a.d.now a.stop c.loop-k.k c.loop-k-test.true) c.requires.2
           (c.put_row.ensures
           ∙ ap (λ (s : ℕ). paste c.loop-k.rows c.loop-k.cell (row_of (record { place = c.loop-k.k; item = Item.Farewell s })) 10)
