@@ -14,8 +14,8 @@ use Rattle.choosing.proofs.choice_in.Goals as goal
 pub returns-then-place-ge64 : goal.returns-then-place-ge64
 returns-then-place-ge64 c =
     let x = c.args in
-    latest_target-none (biased_late x.rate x.at) (held_in 64 x.word) (records_of x.t2)
-    (marked_at x.word (records_of x.t2))
+    latest_target-none (biased_late x.rate x.at) (held_in 64 x.word) (records_of x.members)
+    (marked_at x.word (records_of x.members))
     c.latest_place-place.result
     (c.latest_place-place.ensures (held_in 64 x.word))
     (omega arith)
@@ -23,13 +23,13 @@ returns-then-place-ge64 c =
 pub returns : goal.returns
 returns c =
     let x = c.args in
-    latest_target_one (biased_late x.rate x.at) (held_in 64 x.word) (records_of x.t2)
-    (marked_at x.word (records_of x.t2))
+    latest_target_one (biased_late x.rate x.at) (held_in 64 x.word) (records_of x.members)
+    (marked_at x.word (records_of x.members))
     c.latest_place-place.result
     (c.latest_place-place.ensures (held_in 64 x.word))
     (omega arith)
     c.target_of.result
     c.count_held.result
     (c.target_of.ensures
-    ∙ ap (λ (row : Record). target_of row c.count_held.result) (sym (row_at x.t2 c.latest_place-place.result)))
+    ∙ ap (λ (row : Record). target_of row c.count_held.result) (sym (row_at x.members c.latest_place-place.result)))
     c.count_held.ensures

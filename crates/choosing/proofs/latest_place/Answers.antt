@@ -13,7 +13,7 @@ loop-i-init c = (omega arith, latest-start)
 
 pub loop-i-preserved : goal.loop-i-preserved
 loop-i-preserved c =
-    let ms = c.args.t2 in
+    let ms = c.args.members in
     let within : c.loop-i.i < length (records_of ms) = omega (arith, c.well_formed, length-rows ms) in (
       omega arith,
       latest-step (omega arith) within c.loop-i.invariant.1 (rw (← row_at ms c.loop-i.i) at c.latest_next-latest.ensures),
@@ -21,6 +21,6 @@ loop-i-preserved c =
 
 pub returns : goal.returns
 returns c =
-    let ms = c.args.t2 in
+    let ms = c.args.members in
     let all : length (records_of ms) ≤ c.loop-i.i = omega (arith, c.well_formed, length-rows ms) in
     latest_end all c.loop-i.invariant.1

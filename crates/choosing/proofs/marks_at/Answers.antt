@@ -18,7 +18,7 @@ loop-i-init c = (omega arith, kept_start, kept_start)
 
 pub loop-i-preserved : goal.loop-i-preserved
 loop-i-preserved c =
-    let ms = c.args.t2 in
+    let ms = c.args.members in
     let within : c.loop-i.i < length (records_of ms) = omega (arith, c.well_formed, length-rows ms) in
     let row = get_or (records_of ms) c.loop-i.i nowhere in
     let fresh : Bool = fresh_at (at_rate c.args.rate) c.args.at row in
@@ -35,6 +35,6 @@ loop-i-preserved c =
 
 pub returns : goal.returns
 returns c =
-    let ms = c.args.t2 in
+    let ms = c.args.members in
     let all : length (records_of ms) ≤ c.loop-i.i = omega (arith, c.well_formed, length-rows ms) in
     rw (kept_end all c.loop-i.invariant.1, kept_end all c.loop-i.invariant.2) refl

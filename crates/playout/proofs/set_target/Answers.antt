@@ -41,11 +41,11 @@ module _
 pub returns-then-number-eq0 : goal.returns-then-number-eq0
 returns-then-number-eq0 c =
     writes (record { current = c.args.current; target = c.args.target; step = c.args.step }) c.args.new
-    c.fits.current.__UNKNOWN c.fits.target.__UNKNOWN c.fits.step.__UNKNOWN c.fits.new.__UNKNOWN _ c.clock_number-number.ensures
-    c.if-number-eq0.taken
+    c.ranges.current c.ranges.target c.ranges.step c.ranges.new _ c.clock_number-number.ensures
+    c.if-number-eq0.true
 
 pub returns : goal.returns
 returns c =
     stands (record { current = c.args.current; target = c.args.target; step = c.args.step }) c.args.new
-    c.fits.current.__UNKNOWN c.fits.target.__UNKNOWN c.fits.step.__UNKNOWN c.fits.new.__UNKNOWN _ c.clock_number-number.ensures
-    c.if-number-eq0.left
+    c.ranges.current c.ranges.target c.ranges.step c.ranges.new _ c.clock_number-number.ensures
+    c.if-number-eq0.false

@@ -17,12 +17,12 @@ greatest_next-most-requires c = greatest-part c.loop-i.invariant.1
 
 pub loop-i-preserved : goal.loop-i-preserved
 loop-i-preserved c =
-    let ms = c.args.t2 in
+    let ms = c.args.members in
     let within : c.loop-i.i < length (records_of ms) = omega (arith, c.well_formed, length-rows ms) in
     (omega arith, greatest-step within c.loop-i.invariant.1 (rw (← row_at ms c.loop-i.i) at c.greatest_next-most.ensures))
 
 pub returns : goal.returns
 returns c =
-    let ms = c.args.t2 in
+    let ms = c.args.members in
     let all : length (records_of ms) ≤ c.loop-i.i = omega (arith, c.well_formed, length-rows ms) in
     greatest_end all c.loop-i.invariant.1
