@@ -1,8 +1,6 @@
 -- An item as a row of ten numbers, which is how it crosses to C, and one field of it.
 --     column 0 kind, 1 place, 2 source, 3 group, 4 media source, 5 received, 6 RTP, 7 presented, 8 payload type, 9 P
 use Rattle.std.specs.Prelude.{ℕ, List, [], ◌∷◌, Bool, true, false, cond, get_or, leb}
-use Rattle.idms.specs.declared.Report.{Report}
-use Rattle.idms.specs.declared.Settings.{Settings}
 use Rattle.idms.specs.declared.Item.{Item}
 use Rattle.idms.specs.declared.Placed.{Placed}
 use Rattle.idms.specs.declared.Field.{Field}

@@ -4,7 +4,7 @@ use mathlib.Core.Bool.{Bool, true, false, cond, ◌||◌, false≢true}
 use mathlib.Core.List.{List, ◌∷◌}
 use mathlib.Core.Logic.{◌⊎◌, inl, inr, ◌↔◌}
 use mathlib.Core.Path.{◌≡◌, refl, sym, ap, subst, ◌∙◌}
-use lib.IntN.{ℤ, pos, nat_abs, ◌-ℤ◌}
+use lib.IntN.{ℤ, pos, nat_abs}
 use lib.ListN.{replicate}
 use lib.Dec.{eqb}
 use lib.Signed.{lt_z, ◌≤ℤ◌, ◌<ℤ◌, ≤ℤ_refl}
@@ -16,7 +16,7 @@ use Rattle.integers.proofs.Laws.{<ℤ-lt_z, lt_z-<ℤ, ≤ℤ-le_z, le_z-≤ℤ}
 use Rattle.playout.specs.declared.PlayoutClock.{PlayoutClock}
 use Rattle.playout.specs.PlayoutClock.{ClockCall, is_bad_step, is_outside, clock_checks, with_target}
 use Rattle.playout.specs.PlayoutClock.{clock_answer, clock_after, clock_answers, clock_after_all}
-use Rattle.playout.specs.OnTarget.{judged, BadStep, Outside, OutsideRange, ClockRefusals, EveryClockCall}
+use Rattle.playout.specs.OnTarget.{judged, BadStep, Outside, OutsideRange, EveryClockCall}
 use Rattle.playout.specs.OnTarget.{apart, Between, TickRules, EveryTick, ticks, ticks_to, SetAndTicked, EverySet}
 use Rattle.playout.proofs.Laws.{after-accepted, after-refused, tick_record}
 use Rattle.playout.proofs.Range.{at, clock_at, le_at, number_at, Taken, taken, next_of, towards-at, next_most}

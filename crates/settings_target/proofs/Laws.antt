@@ -1,6 +1,6 @@
 -- What a packet that no check refuses is known by, and its lateness in one word.
 use Prim.Native.Nat.{ℕ, ◌+◌, ◌*◌, ◌^◌, ◌≤◌, ◌<◌}
-use mathlib.Core.Bool.{Bool, true, false, not, cond, ◌&&◌, ◌||◌, true≢false}
+use mathlib.Core.Bool.{Bool, true, false, not, cond, ◌||◌, true≢false}
 use mathlib.Core.Path.{◌≡◌, refl, sym, ap, subst, ◌∙◌}
 use lib.Dec.{ltb, eqb}
 use lib.IntN.{ℤ, pos, sub_ℕ, ◌-ℤ◌}
@@ -13,7 +13,7 @@ use mir.Syntax.{w64}
 use mir.Val.{SFits, to_z, of_z}
 use Rattle.refusals.specs.Refusals.{bad_opening, other_stream, received_far, rtp_aged, badly_presented}
 use Rattle.idms.specs.declared.Settings.{Settings}
-use Rattle.times.specs.Times.{ntp_age, rtp_age, settings_delay, is_far, is_aged, settings_are_badly_presented}
+use Rattle.times.specs.Times.{ntp_age, rtp_age, settings_delay, is_far, is_aged}
 use Rattle.register.specs.declared.Reading.{Reading}
 use Rattle.register.specs.Register.{Opening, is_refused_opening, is_other_stream}
 use Rattle.register.specs.Choosing.{delay_between, lateness, times_lateness}

@@ -1,6 +1,5 @@
 -- What the answer to a settings packet means for a loudspeaker.
-use Prim.Native.Nat.{ℕ}
-use mathlib.Core.Bool.{Bool, true, false, cond, ◌||◌, false≢true}
+use mathlib.Core.Bool.{Bool, false, cond, false≢true}
 use mathlib.Core.List.{[], ◌∷◌}
 use mathlib.Core.Logic.{◌⊎◌, inl, inr}
 use mathlib.Core.Path.{◌≡◌, refl, sym, ap, ◌∙◌}
@@ -14,9 +13,8 @@ use Rattle.register.specs.Choosing.{times_lateness}
 use Rattle.register.specs.Letter.{NoneOf, MeansBehind, Means}
 use Rattle.register.proofs.Letter.Lines.{Tells, tells_equal, tells_less, tells_not, tells_and, tells_or, first_means}
 use Rattle.register.proofs.Letter.Tests.{tells_bad_opening}
-use Rattle.playout.specs.declared.PlayoutClock.{PlayoutClock}
-use Rattle.playout.specs.PlayoutClock.{ClockCall, is_outside, clock_answer}
-use Rattle.playout.specs.OnTarget.{BadStep, Outside}
+use Rattle.playout.specs.PlayoutClock.{ClockCall, is_outside}
+use Rattle.playout.specs.OnTarget.{Outside}
 use Rattle.playout.proofs.Theorems.{outside_test, every_clock_call}
 use Rattle.settings_target.specs.TargetLateness.{target_is_badly_presented, target_checks, lateness_answered}
 use Rattle.settings_target.specs.TargetPromise.{TargetBadlyPresented, target_lines, EveryTarget}

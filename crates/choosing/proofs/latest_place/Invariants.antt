@@ -1,11 +1,7 @@
 -- After i places the latest goes before all rows so far. The measure is how many places are left.
-use Prim.Native.Nat.{◌-◌, ◌≤◌, ◌<◌}
-use lib.ListN.{length}
-use native.Mathlib.Omega.{arith}
+use Prim.Native.Nat.{◌-◌, ◌≤◌}
 use Rattle.register.specs.Tallies.{records_of}
-use Rattle.register.proofs.Tallies.{length-rows}
-use Rattle.choosing.proofs.Laws.Marked.{row_at}
-use Rattle.choosing.proofs.Laws.Candidates.{LatestSoFar, latest-start, latest-step, latest_end}
+use Rattle.choosing.proofs.Laws.Candidates.{LatestSoFar}
 use Rattle.choosing.proofs.latest_place.Given as goal
 
 abbrev pub invariant-loop-i : goal.invariant-loop-i

@@ -1,5 +1,5 @@
 -- After i places each word has the bits of those that pass its test. The measure is how many places are left.
-use Prim.Native.Nat.{◌-◌, ◌≤◌, ◌<◌}
+use Prim.Native.Nat.{◌≤◌, ◌<◌}
 use mathlib.Core.Bool.{Bool, not, ◌&&◌, and_assoc}
 use mathlib.Core.Path.{◌≡◌, refl, ap, ◌∙◌}
 use lib.ListN.{length, get_or}
@@ -10,7 +10,7 @@ use Rattle.register.proofs.Tallies.{length-rows}
 use Rattle.places.specs.Places.{is_free}
 use Rattle.choosing.specs.Marked.{nowhere}
 use Rattle.choosing.specs.Choose.{at_rate}
-use Rattle.choosing.proofs.Laws.Marked.{row_at, KeptSoFar, kept_start, kept_step, kept_end}
+use Rattle.choosing.proofs.Laws.Marked.{row_at, kept_start, kept_step, kept_end}
 use Rattle.choosing.proofs.marks_at.Goals as goal
 
 pub loop-i-init : goal.loop-i-init

@@ -1,16 +1,10 @@
 -- After i places each word has the bits of those that pass its test. The measure is how many places are left.
-use Prim.Native.Nat.{◌-◌, ◌≤◌, ◌<◌}
-use mathlib.Core.Bool.{Bool, not, ◌&&◌, and_assoc}
-use mathlib.Core.Path.{◌≡◌, refl, ap, ◌∙◌}
-use lib.ListN.{length, get_or}
-use native.Mathlib.Omega.{arith}
+use Prim.Native.Nat.{◌-◌, ◌≤◌}
+use mathlib.Core.Bool.{◌&&◌}
 use Rattle.register.specs.Register.{presents, fresh_at}
 use Rattle.register.specs.Tallies.{records_of}
-use Rattle.register.proofs.Tallies.{length-rows}
-use Rattle.places.specs.Places.{is_free}
-use Rattle.choosing.specs.Marked.{nowhere}
 use Rattle.choosing.specs.Choose.{at_rate}
-use Rattle.choosing.proofs.Laws.Marked.{row_at, KeptSoFar, kept_start, kept_step, kept_end}
+use Rattle.choosing.proofs.Laws.Marked.{KeptSoFar}
 use Rattle.choosing.proofs.marks_at.Given as goal
 
 abbrev pub invariant-loop-i : goal.invariant-loop-i

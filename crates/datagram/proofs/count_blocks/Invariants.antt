@@ -1,13 +1,9 @@
 -- The blocks checked and counted: what is left to answer never changes. The measure is what is left of the content.
 use Prim.Native.Nat.{◌+◌, ◌-◌, ◌≤◌}
-use mathlib.Core.Path.{◌≡◌, sym, ap, ◌∙◌}
-use native.Mathlib.Nat.{add-zero}
-use native.Mathlib.Omega.{arith}
+use mathlib.Core.Path.{◌≡◌}
 use Rattle.datagram.specs.Answers.{blocks_count}
 use Rattle.packet.specs.Bytes.{be32}
-use Rattle.packet.specs.Report.{block_size, block_check, block_items}
-use Rattle.datagram.proofs.Laws.Counting.{blocks_left, block_refused, report-counted, skipped_counted}
-use Rattle.datagram.proofs.Laws.Walk.{tally_start, tally_end}
+use Rattle.datagram.proofs.Laws.Counting.{blocks_left}
 use Rattle.datagram.proofs.count_blocks.Given as goal
 
 abbrev pub invariant-loop-at : goal.invariant-loop-at

@@ -1,12 +1,10 @@
 -- The packets checked and counted: what is left to answer never changes. The measure is what is left of the datagram.
-use Prim.Native.Nat.{◌-◌, ◌*◌, ◌≤◌}
-use mathlib.Core.Path.{◌≡◌, sym, ◌∙◌}
+use mathlib.Core.Path.{sym, ◌∙◌}
 use lib.ListN.{length}
 use native.Mathlib.Omega.{arith}
-use Rattle.datagram.specs.Answers.{packets_count}
 use Rattle.datagram.specs.Datagram.{packet_check, packet_items}
 use Rattle.packet.specs.Packet.{size}
-use Rattle.datagram.proofs.Laws.Counting.{packets_left, head_refused, parts_refused, packet_counted}
+use Rattle.datagram.proofs.Laws.Counting.{head_refused, parts_refused, packet_counted}
 use Rattle.datagram.proofs.Laws.Walk.{tally_start, tally_end}
 use Rattle.packet.proofs.Laws.Contents.{known_readable}
 use Rattle.packet.proofs.Laws.Packet.{head_passed, head_is_passed}

@@ -1,9 +1,6 @@
 -- The bytes before i are alike, so the rest decides. The measure is how many are left.
-use Prim.Native.Nat.{◌-◌, ◌≤◌}
-use mathlib.Core.Path.{◌≡◌, refl, sym, ◌∙◌}
-use lib.ListN.{drop}
+use mathlib.Core.Path.{refl, sym, ◌∙◌}
 use native.Mathlib.Omega.{arith}
-use Rattle.origin.specs.Origins.{same_bytes}
 use Rattle.origin.proofs.Laws.{same_unlike, same_alike, same_end}
 use Rattle.origin.proofs.same_address.Goals as goal
 

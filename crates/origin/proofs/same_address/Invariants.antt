@@ -1,10 +1,8 @@
 -- The bytes before i are alike, so the rest decides. The measure is how many are left.
 use Prim.Native.Nat.{◌-◌, ◌≤◌}
-use mathlib.Core.Path.{◌≡◌, refl, sym, ◌∙◌}
+use mathlib.Core.Path.{◌≡◌}
 use lib.ListN.{drop}
-use native.Mathlib.Omega.{arith}
 use Rattle.origin.specs.Origins.{same_bytes}
-use Rattle.origin.proofs.Laws.{same_unlike, same_alike, same_end}
 use Rattle.origin.proofs.same_address.Given as goal
 
 abbrev pub invariant-loop-i : goal.invariant-loop-i

@@ -1,6 +1,5 @@
 -- The address first, then the port.
 use mathlib.Core.Path.{refl, sym, ◌∙◌}
-use borrow.Author.Tests.{not-true, not-false}
 use Rattle.origin.specs.Origins.{same_origin}
 use Rattle.origin.proofs.same_origin.Goals as goal
 

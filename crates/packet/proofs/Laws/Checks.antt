@@ -1,6 +1,6 @@
 -- Laws of checks in turn: what holds once they have passed, and what holds of a refusal.
 use Prim.Native.Nat.{ℕ}
-use mathlib.Core.Path.{◌≡◌, refl, ap}
+use mathlib.Core.Path.{◌≡◌, refl}
 use mathlib.Core.Bool.{Bool, true, false}
 use native.Mathlib.Omega.{arith}
 use Rattle.packet.specs.Checks.{Check, passed, refused, refuse_if, and_then}

@@ -2,7 +2,7 @@
 use mathlib.Core.Bool.{and-eq-true_iff}
 use mathlib.Core.Path.{refl, sym, ◌∙◌}
 use native.Mathlib.Omega.{arith}
-use borrow.Author.Tests.{ltb-true, not-true, not-false}
+use borrow.Author.Tests.{ltb-true}
 use Rattle.places.specs.Places.{without_place}
 use Rattle.places.proofs.Laws.Bits.{bit_fits, held_apart}
 use Rattle.places.proofs.without_place.Goals as goal

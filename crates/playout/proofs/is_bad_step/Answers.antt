@@ -1,7 +1,7 @@
 use mathlib.Core.Bool.{Bool, ◌||◌}
 use mathlib.Core.Path.{sym, ap, ◌∙◌}
 use Prim.Native.Nat.{◌^◌}
-use lib.IntN.{ℤ, pos}
+use lib.IntN.{pos}
 use lib.Signed.{lt_z}
 use Rattle.playout.proofs.Laws.{read, lt_read}
 use Rattle.playout.proofs.is_bad_step.Goals as goal

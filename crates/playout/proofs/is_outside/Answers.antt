@@ -1,7 +1,7 @@
 use mathlib.Core.Bool.{Bool, ◌||◌}
 use mathlib.Core.Path.{sym, ap, ◌∙◌}
 use Prim.Native.Nat.{◌^◌}
-use lib.IntN.{ℤ, pos, neg_ℤ}
+use lib.IntN.{pos, neg_ℤ}
 use lib.Signed.{lt_z}
 use Rattle.playout.proofs.Laws.{read, lt_read}
 use Rattle.playout.proofs.is_outside.Goals as goal

@@ -1,14 +1,8 @@
 -- The words are put one behind the other: what is left to put never changes. The measure is how many are left.
-use Prim.Native.Nat.{ℕ, ◌+◌, ◌-◌, ◌*◌, ◌≤◌}
-use mathlib.Core.List.{List, ◌∷◌}
-use mathlib.Core.Path.{◌≡◌, refl, sym, ap, ◌∙◌}
-use lib.ListN.{length, get_or, drop, drop_of_length-le}
-use lib.Seq.{drop-cons}
-use native.Mathlib.Numerals.{add-one}
-use native.Mathlib.Omega.{arith}
-use Rattle.rtcp.proofs.Laws.Puts.{length_put_one}
+use Prim.Native.Nat.{◌-◌, ◌*◌, ◌≤◌}
+use mathlib.Core.Path.{◌≡◌}
+use lib.ListN.{length, drop}
 use Rattle.rtcp.specs.Puts.{puts}
-use Rattle.writer.proofs.Laws.Messages.{length-bytes32}
 use Rattle.writer.specs.Messages.{bytes32}
 use Rattle.writer.proofs.put_words.Given as goal
 

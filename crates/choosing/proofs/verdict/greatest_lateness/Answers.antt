@@ -1,11 +1,11 @@
 -- After i places the greatest of the rows so far. The measure is how many places are left.
-use Prim.Native.Nat.{◌-◌, ◌≤◌, ◌<◌}
+use Prim.Native.Nat.{◌≤◌, ◌<◌}
 use lib.ListN.{length}
 use native.Mathlib.Omega.{arith}
 use Rattle.register.specs.Tallies.{records_of}
 use Rattle.register.proofs.Tallies.{length-rows}
 use Rattle.choosing.proofs.Laws.Marked.{row_at}
-use Rattle.choosing.proofs.Laws.Verdict.{GreatestSoFar, greatest-start, greatest-part, greatest-step}
+use Rattle.choosing.proofs.Laws.Verdict.{greatest-start, greatest-part, greatest-step}
 use Rattle.choosing.proofs.Laws.Verdict.{greatest_end}
 use Rattle.choosing.proofs.verdict.greatest_lateness.Goals as goal
 

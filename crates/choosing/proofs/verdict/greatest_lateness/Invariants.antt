@@ -1,12 +1,7 @@
 -- After i places the greatest of the rows so far. The measure is how many places are left.
-use Prim.Native.Nat.{◌-◌, ◌≤◌, ◌<◌}
-use lib.ListN.{length}
-use native.Mathlib.Omega.{arith}
+use Prim.Native.Nat.{◌-◌, ◌≤◌}
 use Rattle.register.specs.Tallies.{records_of}
-use Rattle.register.proofs.Tallies.{length-rows}
-use Rattle.choosing.proofs.Laws.Marked.{row_at}
-use Rattle.choosing.proofs.Laws.Verdict.{GreatestSoFar, greatest-start, greatest-part, greatest-step}
-use Rattle.choosing.proofs.Laws.Verdict.{greatest_end}
+use Rattle.choosing.proofs.Laws.Verdict.{GreatestSoFar}
 use Rattle.choosing.proofs.verdict.greatest_lateness.Given as goal
 
 abbrev pub invariant-loop-i : goal.invariant-loop-i

@@ -1,7 +1,7 @@
 -- Where it is as late, what it exceeds by is compared with what is allowed.
 use mathlib.Core.Path.{refl, sym, ap, ◌∙◌}
 use native.Mathlib.Omega.{arith}
-use borrow.Author.Tests.{not-true, not-false, leb-true}
+use borrow.Author.Tests.{leb-true}
 use Rattle.choosing.specs.declared.Late.{Late}
 use Rattle.choosing.proofs.Laws.Verdict.{within_excess}
 use Rattle.choosing.proofs.verdict.is_within.Goals as goal

@@ -1,6 +1,5 @@
 -- Check 3: the tests go in the definition's order, and each return has the law of its case.
 use mathlib.Core.Path.{sym, ◌∙◌}
-use borrow.Author.Tests.{not-true, not-false}
 use Rattle.packet.proofs.Laws.Packet.{unpadded_is_fine, padded_misplaced, padded-last}
 use Rattle.packet.proofs.header.is_badly_padded.Goals as goal
 

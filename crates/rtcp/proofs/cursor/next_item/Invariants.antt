@@ -1,7 +1,6 @@
 -- Steps up to an item: each step that gives none keeps what comes next. The measure is what is left to step over.
-use mathlib.Core.Path.{◌≡◌, refl, sym, ◌∙◌}
+use mathlib.Core.Path.{◌≡◌}
 use Rattle.rtcp.specs.Cursor.{left, cursor_at, next_of}
-use Rattle.rtcp.proofs.Laws.Cursor.{left_falls, next_item_lem, next_end, next_onward}
 use Rattle.rtcp.proofs.cursor.next_item.Given as goal
 
 abbrev pub invariant-loop-x : goal.invariant-loop-x

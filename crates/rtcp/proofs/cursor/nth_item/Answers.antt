@@ -1,7 +1,7 @@
 -- Items are given in turn, so the one wanted is as far off as it was, less one a turn. The measure is how far.
-use Prim.Native.Nat.{ℕ, ◌<◌}
+use Prim.Native.Nat.{ℕ}
 use mathlib.Core.List.{List}
-use mathlib.Core.Path.{◌≡◌, refl, sym, ap, ◌∙◌}
+use mathlib.Core.Path.{refl, sym, ap, ◌∙◌}
 use lib.ListN.{length, get_or}
 use native.Mathlib.Omega.{arith}
 use Rattle.idms.specs.declared.Placed.{Placed}
@@ -9,7 +9,7 @@ use Rattle.rtcp.specs.Answers.{nothing}
 use Rattle.rtcp.specs.Cursor.{remaining}
 use Rattle.datagram.specs.Datagram.{datagram_items}
 use Rattle.rtcp.proofs.Laws.Answers.{getD-behind}
-use Rattle.rtcp.proofs.Laws.Cursor.{Good, start_good, at_item, at_end}
+use Rattle.rtcp.proofs.Laws.Cursor.{start_good, at_item, at_end}
 use Rattle.rtcp.proofs.cursor.nth_item.Goals as goal
 
 pub loop-x-init : goal.loop-x-init

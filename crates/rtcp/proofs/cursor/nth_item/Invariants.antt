@@ -1,15 +1,11 @@
 -- Items are given in turn, so the one wanted is as far off as it was, less one a turn. The measure is how far.
-use Prim.Native.Nat.{ℕ, ◌<◌}
-use mathlib.Core.List.{List}
-use mathlib.Core.Path.{◌≡◌, refl, sym, ap, ◌∙◌}
+use Prim.Native.Nat.{◌<◌}
+use mathlib.Core.Path.{◌≡◌}
 use lib.ListN.{length, get_or}
-use native.Mathlib.Omega.{arith}
-use Rattle.idms.specs.declared.Placed.{Placed}
 use Rattle.rtcp.specs.Answers.{nothing}
 use Rattle.rtcp.specs.Cursor.{remaining}
 use Rattle.datagram.specs.Datagram.{datagram_items}
-use Rattle.rtcp.proofs.Laws.Answers.{getD-behind}
-use Rattle.rtcp.proofs.Laws.Cursor.{Good, start_good, at_item, at_end}
+use Rattle.rtcp.proofs.Laws.Cursor.{Good}
 use Rattle.rtcp.proofs.cursor.nth_item.Given as goal
 
 abbrev pub invariant-loop-x : goal.invariant-loop-x

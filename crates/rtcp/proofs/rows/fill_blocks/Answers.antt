@@ -1,18 +1,17 @@
 -- A row for each report in turn; `Filling` says what is left to put. The measure is what is left of the blocks.
-use Prim.Native.Nat.{◌+◌, ◌-◌, ◌≤◌}
-use mathlib.Core.Path.{◌≡◌, sym, ap, ◌∙◌}
+use Prim.Native.Nat.{◌+◌, ◌≤◌}
+use mathlib.Core.Path.{sym, ap, ◌∙◌}
 use lib.ListN.{length}
 use lib.Seq.{paste}
 use native.Mathlib.Omega.{arith}
-use Rattle.datagram.specs.Datagram.{blocks_check, blocks_items}
+use Rattle.datagram.specs.Datagram.{blocks_items}
 use Rattle.idms.specs.Rows.{row_of}
 use Rattle.idms.specs.declared.Item.{Item}
 use Rattle.idms.specs.declared.Report.{Report}
-use Rattle.packet.specs.Checks.{passed}
 use Rattle.packet.specs.Report.{report_at}
 use Rattle.datagram.proofs.Laws.Datagram.{blocks_end}
 use Rattle.rtcp.proofs.Laws.Blocks.{report_turn, skipped_turn, not-refused, fields_read, fields_not_outside}
-use Rattle.rtcp.proofs.Laws.Rows.{Filling, filling_start, filling_none, filling_row, filling_room, filling_end}
+use Rattle.rtcp.proofs.Laws.Rows.{filling_start, filling_none, filling_row, filling_room, filling_end}
 use Rattle.rtcp.proofs.rows.fill_blocks.Goals as goal
 
 pub loop-place-init : goal.loop-place-init

@@ -1,18 +1,9 @@
 -- A row for each report in turn; `Filling` says what is left to put. The measure is what is left of the blocks.
-use Prim.Native.Nat.{◌+◌, ◌-◌, ◌≤◌}
-use mathlib.Core.Path.{◌≡◌, sym, ap, ◌∙◌}
-use lib.ListN.{length}
-use lib.Seq.{paste}
-use native.Mathlib.Omega.{arith}
+use Prim.Native.Nat.{◌-◌}
+use mathlib.Core.Path.{◌≡◌}
 use Rattle.datagram.specs.Datagram.{blocks_check, blocks_items}
-use Rattle.idms.specs.Rows.{row_of}
-use Rattle.idms.specs.declared.Item.{Item}
-use Rattle.idms.specs.declared.Report.{Report}
 use Rattle.packet.specs.Checks.{passed}
-use Rattle.packet.specs.Report.{report_at}
-use Rattle.datagram.proofs.Laws.Datagram.{blocks_end}
-use Rattle.rtcp.proofs.Laws.Blocks.{report_turn, skipped_turn, not-refused, fields_read, fields_not_outside}
-use Rattle.rtcp.proofs.Laws.Rows.{Filling, filling_start, filling_none, filling_row, filling_room, filling_end}
+use Rattle.rtcp.proofs.Laws.Rows.{Filling}
 use Rattle.rtcp.proofs.rows.fill_blocks.Given as goal
 
 abbrev pub invariant-loop-place : goal.invariant-loop-place

@@ -1,5 +1,5 @@
 -- A row for each source in turn; `Filling` says what is left to put. The measure is what is left of the sources.
-use Prim.Native.Nat.{ℕ, ◌+◌, ◌-◌, ◌%◌, ◌≤◌}
+use Prim.Native.Nat.{ℕ, ◌+◌, ◌≤◌}
 use mathlib.Core.Path.{◌≡◌, sym, ap, ◌∙◌}
 use lib.ListN.{length}
 use lib.Seq.{paste}
@@ -11,7 +11,7 @@ use Rattle.packet.specs.Farewell.{farewell_item}
 use Rattle.packet.specs.declared.bytes.Source.{Source}
 use Rattle.datagram.proofs.Laws.Datagram.{sources_part, sources_end}
 use Rattle.packet.proofs.Laws.Bytes.{source_inside, source_read}
-use Rattle.rtcp.proofs.Laws.Rows.{Filling, filling_start, filling_row, filling_room, filling_end}
+use Rattle.rtcp.proofs.Laws.Rows.{filling_start, filling_row, filling_room, filling_end}
 use Rattle.rtcp.proofs.rows.fill_sources.Goals as goal
 
 pub loop-k-init : goal.loop-k-init
