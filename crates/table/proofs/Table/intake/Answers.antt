@@ -10,23 +10,20 @@ use Rattle.table.proofs.Table.intake.Goals as goal
 pub returns-in_default-item : goal.returns-in_default-item
 returns-in_default-item c =
     let args = c.args in
-    item-passed args.self args.item args.origin args.at c.in_default.keys2 c.in_default-item.keys2
+    item-passed args.self args.item args.origin args.at c.in_default.not-Report c.in_default-item.not-Farewell
 
 pub returns-in_default : goal.returns-in_default
 unfolding taken
 returns-in_default c =
     let args = c.args in
-    let item = c.item-in_default-1.given in
-    rw item.1
-    (item_called args.self (Call.farewell item.0.0 args.origin) _ _ c.farewell.ensures
-    c.numbered.ensures)
+    rw c.in-Farewell.is
+    (item_called args.self (Call.farewell c.in-Farewell.source args.origin) _ _ c.farewell.ensures c.numbered.ensures)
 
 pub returns : goal.returns
 unfolding taken
 returns c =
     let args = c.args in
-    let item = c.item-1.given in
-    rw item.1
-    (item_called args.self (Call.report (record_of item.0.0 args.origin) args.at) _ _
+    rw c.in-Report.is
+    (item_called args.self (Call.report (record_of c.in-Report.report args.origin) args.at) _ _
     (c.report.ensures ∙ ap (λ (y : Record). answered args.self (Call.report y args.at)) c.record_of.ensures)
     c.numbered-2.ensures)
