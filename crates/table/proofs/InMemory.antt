@@ -20,8 +20,7 @@ use denote.Array.{Array}
 use denote.ArrayMemory.{Array-apart, Array-whole}
 use denote.Index.{place_is, elem_out, elem_put}
 use denote.Struct.Laws as LL
-use borrow.Struct.Items.{cut-records}
-use borrow.Struct.Behind.{put_at}
+use borrow.Struct.Behind.{put_at_lem}
 use Rattle.register.specs.declared.Member.{Member}
 use Rattle.register.specs.contracts.Member as Mb
 use Rattle.register.proofs.Member.TheLaws as Mb'
@@ -36,18 +35,18 @@ use Rattle.table.proofs.Table.TheLaws as T'
 module _ {M : Type 1} {𝓤 : Ura M} (𝓛 : Logic 𝓤) (R : RattleType) where
   pub value_whole :
       (q : Share) (x : R.Denot) (vs : List Val) (b o : ℕ) →
-      ent 𝓤 (sep 𝓤 (sem 𝓛 (cell_at q R.mir vs b o)) (sem 𝓛 (R.own x vs))) (sem 𝓛 (part_at R q x b o))
+      ent 𝓤 (sep 𝓤 (sem 𝓛 (cell_at q R.mir vs b o)) (sem 𝓛 (R.own_val x vs))) (sem 𝓛 (part_at R q x b o))
   unfolding part_of
   value_whole q x vs b o =
-      qed 𝓛 (‵ (cell_at q R.mir vs b o) ∷ ‵ (R.own x vs) ∷ []) ∵
-      fjoin ! $ fpack ! (List Val) (λ us. fsep (cell_at q R.mir us b o) (R.own x us)) vs $ done !
+      qed 𝓛 (‵ (cell_at q R.mir vs b o) ∷ ‵ (R.own_val x vs) ∷ []) ∵
+      fjoin ! $ fpack ! (List Val) (λ us. fsep (cell_at q R.mir us b o) (R.own_val x us)) vs $ done !
 
 module _
     {M : Type 1} {𝓤 : Ura M} {𝓛 : Logic 𝓤} {K : Type 0} {Γ : List (Item 𝓤)}
     {G : Goal 𝓤 𝓛.H} where
   pub value_apart :
       K → (R : RattleType) (q : Share) (x : R.Denot) (b o : ℕ) →
-      ((vs : List Val) → Seq K 𝓛 (‵ (cell_at q R.mir vs b o) ∷ ‵ (R.own x vs) ∷ Γ) G) →
+      ((vs : List Val) → Seq K 𝓛 (‵ (cell_at q R.mir vs b o) ∷ ‵ (R.own_val x vs) ∷ Γ) G) →
       Seq K 𝓛 (‵ (part_at R q x b o) ∷ Γ) G
   unfolding part_of
   value_apart t R q x b o k = fpick t (λ vs. fsplit t $ k vs)
@@ -88,9 +87,8 @@ module _
   stored =
       qed 𝓛 (‵ Whole ∷ []) ∵
       use1 𝓛 (‵ Before ⊛ raw (wand 𝓤 (sem 𝓛 Behind) (sem 𝓛 After)))
-      (cut-records 𝓛 q T.the_row Mb.the_type 64 24 t (with_member t i m) t.members (set t.members i m) (b, o)
-      (put_at 𝓛 q T.the_type T'.the_laws 4 24 refl refl (b, o) t (with_member t i m) ((T.struct).as_values t)
-      (set t.members i m) refl refl)) $ split ! $
+      (put_at_lem 𝓛 q T.the_type T'.the_loose 4 24 tt refl (b, o) t (with_member t i m) ((T.struct).as_values t)
+      (set t.members i m) refl refl) $ split ! $
       use1 𝓛 (‵ ((arr_parts (shares Mb.the_row) 64).part q t.members b (o + 24)))
       (Array-apart 𝓛 Mb.the_row q tt 64 t.members b (o + 24)) $ fsplit ! $ feq_l ! (λ len.
       elem_out ! Mb.the_row (Is Mb.the_row) (shows 𝓛 Mb.the_row) (LL.vals Mb.the_type Mb'.the_laws)
