@@ -1,6 +1,6 @@
 -- The search, as in `Table::filing`. What the farewell does at the place where it stopped is stored, and that is what
 -- the call leaves.
-use Rattle.std.proofs.Common.{◌≡◌, ◌+◌, length, refl, sym, ◌∙◌, arith}
+use Rattle.std.proofs.Common.{◌≡◌, length, refl, sym, ◌∙◌, arith}
 use Rattle.table.specs.Members.{place_in}
 use Rattle.table.proofs.Laws.Search.{search_found, search_next, search_none}
 use Rattle.table.proofs.Laws.Filing.{farewell_stored}

@@ -1,6 +1,6 @@
 -- The search, as in `search::place_among`, over a field of the table: left by its test or where the number is found, it
 -- stands at the number's place. The measure is how many places are left.
-use Rattle.std.proofs.Common.{◌≡◌, ◌+◌, length, refl, sym, ◌∙◌, arith}
+use Rattle.std.proofs.Common.{◌≡◌, length, refl, sym, ◌∙◌, arith}
 use Rattle.table.specs.Members.{place_in}
 use Rattle.table.proofs.Laws.Search.{search_found, search_next, search_none}
 use Rattle.table.proofs.Laws.Filing.{filing_searched}
