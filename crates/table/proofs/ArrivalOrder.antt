@@ -1,6 +1,6 @@
 -- Order of arrival (document 02, E8): the register's members are a permutation in either order, and stay one behind any
 -- further calls; tables that agree with the one and the other differ in places alone.
-use Prim.Native.Nat.{ℕ, suc}
+use Prim.Native.Nat.{ℕ}
 use mathlib.Core.Bool.{Bool, true, false, cond}
 use mathlib.Core.List.Memᴰ
 use mathlib.Core.List.Permᴰ

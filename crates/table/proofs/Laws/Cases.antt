@@ -39,7 +39,6 @@ use Rattle.table.specs.Calls.{
   is_without_room,
   number_of,
   with_held,
-  with_member,
   tally_at,
   filed,
   accepted_by,

@@ -30,7 +30,7 @@ stopped c =
     let t = c.args.self in
     let inv = c.loop-i.invariant in
     elim c.loop-i-test.branch [
-      else-loop-i-test w ↦ search_none _ _ t.members (long c) _ _ inv (omega (arith, w))
+      | else-loop-i-test w ↦ search_none _ _ t.members (long c) _ _ inv (omega (arith, w))
       | then-loop-i-test+then-is_held_by w ↦ search_found _ _ t.members (long c) _ _ inv (omega (arith, w))
           (sym w.is_held_by.ensures ∙ w.if-is_held_by.true)
     ]

@@ -28,7 +28,7 @@ returns c =
     let inv = c.loop-i.invariant in
     let stopped : c.loop-i.i ≡ place_in t c.args.x.source =
     elim c.loop-i-test.branch [
-      else-loop-i-test w ↦ search_none _ _ t.members long _ _ inv (omega (arith, w))
+      | else-loop-i-test w ↦ search_none _ _ t.members long _ _ inv (omega (arith, w))
       | then-loop-i-test+then-is_held_by w ↦ search_found _ _ t.members long _ _ inv (omega (arith, w))
           (sym w.is_held_by.ensures ∙ w.if-is_held_by.true)
     ] in

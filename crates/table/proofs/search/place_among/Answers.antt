@@ -1,9 +1,7 @@
 -- What the search keeps, by its laws. The measure is how many numbers are left.
-use Prim.Native.Nat.{◌-◌}
 use mathlib.Core.Path.{sym, ◌∙◌}
-use lib.ListN.{length}
 use native.Mathlib.Omega.{arith}
-use Rattle.table.proofs.Laws.Search.{SearchingAmong, among_found, among_next, among_none}
+use Rattle.table.proofs.Laws.Search.{among_found, among_next, among_none}
 use Rattle.table.proofs.search.place_among.Goals as goal
 
 pub loop-i-init : goal.loop-i-init
