@@ -11,14 +11,13 @@ use borrow.Author.Tests.{lt-ltb, le-ltb, eq-eqb}
 use Rattle.refusals.specs.Refusals.{long_burst, short_answers}
 use Rattle.register.specs.declared.Record.{Record}
 use Rattle.register.specs.declared.Reading.{Reading}
-use Rattle.register.specs.Register.{Opening, Call, answers}
-use Rattle.register.specs.Tallies.{Members, records_of, members_after_all}
-use Rattle.register.specs.Promise.{AllInRange}
+use Rattle.register.specs.Register.{Call, answers}
+use Rattle.register.specs.Tallies.{records_of}
 use Rattle.register.proofs.Tallies.{rows_after-all}
 use Rattle.register.proofs.History.{answers-behind}
 use Rattle.table.specs.declared.Table.{Table}
 use Rattle.table.specs.Calls.{answered}
-use Rattle.table.specs.History.{answers_from, table_from, Reached}
+use Rattle.table.specs.History.{answers_from, table_from}
 use Rattle.table.specs.Numbers.{numbers_into}
 use Rattle.table.proofs.Agreement.Theorem.{reached_further, reached-answers}
 use Rattle.burst.specs.Burst.{report_calls, burst_limit, burst_checks, burst_answered, burst_answers_after}

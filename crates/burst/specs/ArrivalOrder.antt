@@ -10,7 +10,6 @@ use Rattle.register.specs.Register.{Opening, Call}
 use Rattle.register.specs.Tallies.{Members}
 use Rattle.register.specs.ArrivalOrder.{AllAccepted, AllFromDifferentSources}
 use Rattle.table.specs.declared.Table.{Table}
-use Rattle.table.specs.declared.Answered.{Answered}
 use Rattle.table.specs.History.{answers_from, table_from, Reached}
 use Rattle.table.specs.ArrivalOrder.{AlikeButPlaces, CallResult, ResultsInEitherOrder}
 use Rattle.burst.specs.Burst.{report_calls, burst_answered, burst_answers_after}

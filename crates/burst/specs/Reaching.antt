@@ -10,7 +10,6 @@ use Rattle.register.specs.Register.{Opening, Call, answers}
 use Rattle.register.specs.Tallies.{Members, members_after_all}
 use Rattle.register.specs.Promise.{AllInRange}
 use Rattle.table.specs.declared.Table.{Table}
-use Rattle.table.specs.declared.Answered.{Answered}
 use Rattle.table.specs.History.{Reached}
 use Rattle.burst.specs.Burst.{report_calls, burst_answered, burst_answers_after}
 

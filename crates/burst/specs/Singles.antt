@@ -12,7 +12,6 @@ use Rattle.register.specs.declared.Reading.{Reading}
 use Rattle.register.specs.Register.{Call}
 use Rattle.choosing.specs.Marked.{nowhere}
 use Rattle.table.specs.declared.Table.{Table}
-use Rattle.table.specs.declared.Answered.{Answered}
 use Rattle.table.specs.Calls.{answered}
 use Rattle.burst.specs.Burst.{burst_answered, burst_answers_after}
 

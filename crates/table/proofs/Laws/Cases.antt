@@ -2,12 +2,16 @@
 use Prim.Native.Nat.{ℕ, ◌≤◌, ◌<◌}
 use mathlib.Core.Bool.{Bool, true, false, cond, ◌&&◌}
 use mathlib.Core.Path.{◌≡◌, refl, sym, ap, ◌∙◌}
+use mathlib.Core.List.{[], ◌∷◌}
+use mathlib.Core.Logic.{⊎_elim}
 use lib.Dec.{eqb}
 use lib.ListN.{get_or, set}
 use native.Mathlib.Omega.{arith}
 use borrow.Author.Tests.{eqb-false, ne_eqb, lt-ltb, le-ltb}
+use denote.Enum.Declared.{tag_of}
+use types.Run.{OneOf}
+use Rattle.idms.specs.contracts.Item.{the_type}
 use Rattle.idms.specs.declared.Item.{Item}
-use Rattle.idms.specs.declared.Report.{Report}
 use Rattle.refusals.specs.Refusals.{bad_opening, other_stream, other_origin, received_far, rtp_aged, badly_presented}
 use Rattle.refusals.specs.Refusals.{no_room, no_member}
 use Rattle.times.specs.Times.{is_far, is_aged, is_badly_presented}
@@ -235,15 +239,15 @@ records-tallied t place =
 
 -- ---- an item
 
--- no report and no farewell: settings
+-- no report by its tag, and no farewell: settings
 pub item-passed :
-    (t : Table) → (i : Item) → (origin : Origin) → (at : Reading) → ((r : Report) → i ≡ Item.Report r → ⊥) →
-    ((source : ℕ) → i ≡ Item.Farewell source → ⊥) →
+    (t : Table) → (i : Item) → (origin : Origin) → (at : Reading) → OneOf (1 ∷ 2 ∷ []) (tag_of the_type i) →
+    OneOf (0 ∷ 1 ∷ []) (tag_of the_type i) →
     record { outcome = Outcome.Passed; table = t } ≡ taken t i origin at
 unfolding taken
-item-passed t (Item.Report r) origin at h k = absurd (h r refl)
+item-passed t (Item.Report r) origin at h k = absurd (⊎_elim (λ z. omega arith) (λ z. omega arith) h)
 item-passed t (Item.Settings s) origin at h k = refl
-item-passed t (Item.Farewell source) origin at h k = absurd (k source refl)
+item-passed t (Item.Farewell source) origin at h k = absurd (⊎_elim (λ z. omega arith) (λ z. omega arith) k)
 
 -- a report or a farewell by its call
 pub item_called :
