@@ -23,7 +23,7 @@ returns-then-bad_line c =
 pub returns-then-too_many : goal.returns-then-too_many
 returns-then-too_many c =
     let d = c.args.line.now in
-    let e : keeps_grammar c.args.line.now ≡ true = cc in
+    let e : keeps_grammar c.args.line.now ≡ true = grind arith in
     sym (group-long d e (many_digits d (omega arith)))
 
 pub overflow_sub-line : goal.overflow_sub-line
