@@ -17,9 +17,11 @@ pub returns-in-End : goal.returns-in-End
 returns-in-End c =
     let args = c.args in
     let ended : _ = sym c.next_item.ensures ∙ c.in-End.is in
+    let all : _ =
     calls_left_end c.loop-left.invariant
     (calls_none args.origin args.at (given_end c.loop-left.left args.d.now c.loop-left.cursor ended))
-    c.requires
+    c.requires in
+    record { value = all.0; answers_after = all.1 }
 
 pub put_number-place-requires : goal.put_number-place-requires
 put_number-place-requires c =
@@ -36,8 +38,8 @@ loop-left-preserved c =
     calls_left_item c.loop-left.invariant args.origin args.at _ _ _ _ _
     (calls_item args.origin args.at c.loop-left.left args.d.now c.loop-left.cursor _ _ c.loop-left-test.true gave)
     c.intake-taken.ensures
-    c.put_number-place.ensures.1
-    c.put_number-place.ensures.0
+    c.put_number-place.ensures.answers_after
+    c.put_number-place.ensures.value
 
 pub shape_of-answers : goal.shape_of-answers
 shape_of-answers c = c.loop-left.invariant.long
@@ -45,6 +47,8 @@ shape_of-answers c = c.loop-left.invariant.long
 pub returns : goal.returns
 returns c =
     let args = c.args in
+    let all : _ =
     calls_left_end c.loop-left.invariant
     (calls_none args.origin args.at (given-none c.loop-left.left args.d.now c.loop-left.cursor (omega arith)))
-    c.requires
+    c.requires in
+    record { value = all.0; answers_after = all.1 }

@@ -10,7 +10,7 @@ bounds-answers-at c =
     omega (arith, rw e at room)
 
 pub returns-in-Number : goal.returns-in-Number
-returns-in-Number c = let e : _ = c.in-Number.is in rw e (refl, refl)
+returns-in-Number c = let e : _ = c.in-Number.is in rw e (record { value = refl; answers_after = refl })
 
 pub returns-in-Passed : goal.returns-in-Passed
-returns-in-Passed c = let e : _ = c.in-Passed.is in rw e (omega arith, refl)
+returns-in-Passed c = let e : _ = c.in-Passed.is in rw e (record { value = omega arith; answers_after = refl })

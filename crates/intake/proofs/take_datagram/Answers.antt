@@ -7,8 +7,10 @@ use Rattle.intake.proofs.take_datagram.Goals as goal
 pub returns-then-answers-calls : goal.returns-then-answers-calls
 returns-then-answers-calls c =
     let args = c.args in
+    let all : _ =
     answered-short args.t args.reduced args.d.now args.origin args.at args.answers.now _ _ _
-    (sym c.open_datagram.ensures ∙ c.in-Items.is) c.count_calls-calls.ensures c.if-answers-calls.true
+    (sym c.open_datagram.ensures ∙ c.in-Items.is) c.count_calls-calls.ensures c.if-answers-calls.true in
+    record { value = all.0; answers_after = all.1 }
 
 pub make_calls-requires : goal.make_calls-requires
 make_calls-requires c =
@@ -19,12 +21,16 @@ make_calls-requires c =
 pub returns-in-Refused : goal.returns-in-Refused
 returns-in-Refused c =
     let args = c.args in
+    let all : _ =
     answered-refused args.t args.reduced args.d.now args.origin args.at args.answers.now _
-    (sym c.open_datagram.ensures ∙ c.in-Refused.is)
+    (sym c.open_datagram.ensures ∙ c.in-Refused.is) in
+    record { value = all.0; answers_after = all.1 }
 
 pub returns-else-answers-calls : goal.returns-else-answers-calls
 returns-else-answers-calls c =
     let args = c.args in
+    let all : _ =
     answered-all args.t args.reduced args.d.now args.origin args.at args.answers.now _ _ _
     (sym c.open_datagram.ensures ∙ c.in-Items.is) c.count_calls-calls.ensures _ _
-    c.if-answers-calls.false c.make_calls.ensures.0 c.make_calls.ensures.1
+    c.if-answers-calls.false c.make_calls.ensures.value c.make_calls.ensures.answers_after in
+    record { value = all.0; answers_after = all.1 }

@@ -10,7 +10,10 @@ use Rattle.replay.proofs.Laws.Replayed.{replayed-none, replayed_entries, opening
 use Rattle.replay.proofs.replay.Goals as goal
 
 pub returns-then-is_bad_layout : goal.returns-then-is_bad_layout
-returns-then-is_bad_layout c = replayed_layout _ _ (sym c.is_bad_layout.ensures ∙ c.if-is_bad_layout.true)
+returns-then-is_bad_layout c =
+    let all : _ =
+    replayed_layout c.args.f.now c.args.rows.now (sym c.is_bad_layout.ensures ∙ c.if-is_bad_layout.true) in
+    record { value = all.0; rows_after = all.1 }
 
 pub read32-n-requires : goal.read32-n-requires
 read32-n-requires c =
@@ -30,33 +33,39 @@ read32-requires-3 c =
 
 pub returns-then-opened-ne0 : goal.returns-then-opened-ne0
 returns-then-opened-ne0 c =
-    replayed-opening _ _ (sym c.is_bad_layout.ensures ∙ c.if-is_bad_layout.false) _
-    (c.«open».ensures.__UNKNOWN
+    let all : _ =
+    replayed-opening c.args.f.now c.args.rows.now (sym c.is_bad_layout.ensures ∙ c.if-is_bad_layout.false) _
+    (c.open-opened.ensures
     ∙ opening-read _ c.read32.ensures c.read32-2.ensures
     c.read32-3.ensures)
-    c.if-opened-ne0.true
+    c.if-opened-ne0.true in
+    record { value = all.0; rows_after = all.1 }
 
 pub returns-then-rows-n : goal.returns-then-rows-n
 returns-then-rows-n c =
-    replayed-short _ _ (sym c.is_bad_layout.ensures ∙ c.if-is_bad_layout.false) _
-    (c.«open».ensures.__UNKNOWN
+    let all : _ =
+    replayed-short c.args.f.now c.args.rows.now (sym c.is_bad_layout.ensures ∙ c.if-is_bad_layout.false) _
+    (c.open-opened.ensures
     ∙ opening-read _ c.read32.ensures c.read32-2.ensures
     c.read32-3.ensures)
-    c.if-opened-ne0.false _ c.read32-n.ensures c.if-rows-n.true
+    c.if-opened-ne0.false _ c.read32-n.ensures c.if-rows-n.true in
+    record { value = all.0; rows_after = all.1 }
 
 pub returns-then-n-eq0 : goal.returns-then-n-eq0
 returns-then-n-eq0 c =
-    replayed-none _ _ (sym c.is_bad_layout.ensures ∙ c.if-is_bad_layout.false) _
-    (c.«open».ensures.__UNKNOWN
+    let all : _ =
+    replayed-none c.args.f.now c.args.rows.now (sym c.is_bad_layout.ensures ∙ c.if-is_bad_layout.false) _
+    (c.open-opened.ensures
     ∙ opening-read _ c.read32.ensures c.read32-2.ensures
     c.read32-3.ensures)
     c.if-opened-ne0.false _ c.read32-n.ensures
-    c.if-rows-n.false c.if-n-eq0.true
+    c.if-rows-n.false c.if-n-eq0.true in
+    record { value = all.0; rows_after = all.1 }
 
 pub run_entries-requires : goal.run_entries-requires
 run_entries-requires c =
     let opens : _ =
-    c.«open».ensures.__UNKNOWN
+    c.open-opened.ensures
     ∙ opening-read _ c.read32.ensures c.read32-2.ensures
     c.read32-3.ensures in (
       ap (λ (a : Answered). sources_of a.table.members) opens ∙ opened_sources _,
@@ -68,10 +77,12 @@ run_entries-requires c =
 
 pub returns : goal.returns
 returns c =
-    replayed_entries _ _ (sym c.is_bad_layout.ensures ∙ c.if-is_bad_layout.false) _
-    (c.«open».ensures.__UNKNOWN
+    let all : _ =
+    replayed_entries c.args.f.now c.args.rows.now (sym c.is_bad_layout.ensures ∙ c.if-is_bad_layout.false) _
+    (c.open-opened.ensures
     ∙ opening-read _ c.read32.ensures c.read32-2.ensures
     c.read32-3.ensures)
     c.if-opened-ne0.false _
     c.read32-n.ensures
-    c.if-rows-n.false _ _ c.run_entries.ensures.0 c.run_entries.ensures.1
+    c.if-rows-n.false _ _ c.run_entries.ensures.0 c.run_entries.ensures.1 in
+    record { value = all.0; rows_after = all.1 }

@@ -1,8 +1,5 @@
 -- One item after the other, and one entry after the other: `Running` says what is left. The measure counts the entries
 -- left, each as more than a datagram has items, and the items left.
--- ---- paths: the turn of an item that is taken, that of an entry that ends, and the function's start
--- ---- an item
--- ---- the entry is over
 use Prim.Native.Nat.{◌+◌, ◌-◌, ◌*◌, ◌<◌}
 use mathlib.Core.Path.{refl, sym, ap, ◌∙◌}
 use native.Mathlib.Omega.{arith}
@@ -15,34 +12,6 @@ use Rattle.replay.proofs.Laws.Running.{Running, running_inside, running_start, s
 use Rattle.replay.proofs.Laws.Running.{running_report, farewell_within, running_farewell, running_settings}
 use Rattle.replay.proofs.Laws.Running.{running_next, running_end}
 use Rattle.replay.proofs.run_entries.Goals as goal
-
-abbrev turn : tie.After-at invariant-loop decreases-loop → tie.At-loop invariant-loop decreases-loop
-turn c = c.before.before.before.before.before.before
-
-abbrev ending : tie.Else1 invariant-loop decreases-loop → tie.At-loop invariant-loop decreases-loop
-ending c = c.before.before.before.before.before.before.before.before
-
-abbrev start : tie.At-loop invariant-loop decreases-loop → tie.Start invariant-loop decreases-loop
-start c = c.before.before.before.before.before.before.before.before.before
-
-some : (c : tie.After-at invariant-loop decreases-loop) → 0 < (turn c).loop.left
-some c =
-    some_left (turn c).loop.invariant _ _ _ c.before.before.before.before.before.next_of.ensures
-    c.before.before.before.step.given.1
-
-report-placed : (c : tie.After-report-filing invariant-loop decreases-loop) → c.report-filing.result.place < 64
-report-placed c =
-    let item = c.before.before.before.before.before.before.before.before.before in
-    report_within (turn item).loop.invariant _ _ _ item.before.before.before.before.before.next_of.ensures
-    item.before.before.before.step.given.1 _ _ _ _ refl _ c.before.before.before.place_among_lem.ensures
-    c.before.report-number-at.ensures c.report-filing.ensures
-
-farewell-placed : (c : tie.After-farewell-filing invariant-loop decreases-loop) → c.farewell-filing.result.place < 64
-farewell-placed c =
-    let item = c.before.before.before.before.before.before.before.before in
-    farewell_within (turn item).loop.invariant _ _ _ item.before.before.before.before.before.next_of.ensures
-    item.before.before.before.step.given.1 _ _ _ _ refl _ c.before.before.before.place-among2.ensures
-    c.before.farewell-number-at.ensures c.farewell-filing.ensures
 
 pub entry_place-requires-2 : goal.entry_place-requires-2
 entry_place-requires-2 c =
@@ -83,74 +52,80 @@ pub next_of-step-requires : goal.next_of-step-requires
 next_of-step-requires c = running_inside c.loop-step.invariant
 
 pub overflow_sub-left : goal.overflow_sub-left
-overflow_sub-left c = omega (arith, some c)
+overflow_sub-left c = omega (arith, some_left c.loop-step.invariant _ _ _ c.next_of-step.ensures c.in-Item.is)
 
 pub slice_bounds-place_among-end : goal.slice_bounds-place_among-end
-slice_bounds-place_among-end c = sym (turn c).loop.inv.many
+slice_bounds-place_among-end c = sym c.loop-step.invariant.many
 
 pub offset_bounds-sources-place : goal.offset_bounds-sources-place
-offset_bounds-sources-place c = record { fits = omega (arith, report-placed c) }
+offset_bounds-sources-place c = record { fits = omega (arith, report_within c.loop-step.invariant _ _ _ c.next_of-step.ensures c.in-Item.is _ _ _ _ refl _
+    c.place_among-found.ensures c.report_number_at-number.ensures c.report_filing-filing.ensures) }
 
 pub bounds-sources-place : goal.bounds-sources-place
-bounds-sources-place c = report-placed c
+bounds-sources-place c = report_within c.loop-step.invariant _ _ _ c.next_of-step.ensures c.in-Item.is _ _ _ _ refl _
+    c.place_among-found.ensures c.report_number_at-number.ensures c.report_filing-filing.ensures
 
 pub offset_bounds-table-place : goal.offset_bounds-table-place
-offset_bounds-table-place c = record { fits = omega (arith, report-placed c) }
+offset_bounds-table-place c = record { fits = omega (arith, report_within c.loop-step.invariant _ _ _ c.next_of-step.ensures c.in-Item.is _ _ _ _ refl _
+    c.place_among-found.ensures c.report_number_at-number.ensures c.report_filing-filing.ensures) }
 
 pub bounds-table-place : goal.bounds-table-place
-bounds-table-place c = report-placed c
+bounds-table-place c = report_within c.loop-step.invariant _ _ _ c.next_of-step.ensures c.in-Item.is _ _ _ _ refl _
+    c.place_among-found.ensures c.report_number_at-number.ensures c.report_filing-filing.ensures
 
 pub row_after-row-requires : goal.row_after-row-requires
 row_after-row-requires c =
-    omega (arith, (turn item).loop.invariant.few, some item)
+    omega (arith, c.loop-step.invariant.few, some_left c.loop-step.invariant _ _ _ c.next_of-step.ensures c.in-Item.is)
 
 pub loop-step-smaller-in-Report : goal.loop-step-smaller-in-Report
 loop-step-smaller-in-Report c =
-    omega (arith, some item)
+    omega (arith, some_left c.loop-step.invariant _ _ _ c.next_of-step.ensures c.in-Item.is)
 
 pub loop-step-preserved-in-Report : goal.loop-step-preserved-in-Report
 loop-step-preserved-in-Report c =
-    running_report (turn item).loop.invariant _ _ _ c.next_of-step.ensures
+    running_report c.loop-step.invariant _ _ _ c.next_of-step.ensures
     c.in-Item.is _ _ _ _ refl _
     c.place_among-found.ensures c.report_number_at-number.ensures
     c.report_filing-filing.ensures _ _ c.in-Report.is c.record_of-record.ensures
     c.row_after-row.ensures
 
 pub slice_bounds-place_among-end-in-Farewell : goal.slice_bounds-place_among-end-in-Farewell
-slice_bounds-place_among-end-in-Farewell c = sym (turn c).loop.inv.many
+slice_bounds-place_among-end-in-Farewell c = sym c.loop-step.invariant.many
 
 pub offset_bounds-table-place-in-Farewell : goal.offset_bounds-table-place-in-Farewell
-offset_bounds-table-place-in-Farewell c = record { fits = omega (arith, farewell-placed c) }
+offset_bounds-table-place-in-Farewell c = record { fits = omega (arith, farewell_within c.loop-step.invariant _ _ _ c.next_of-step.ensures c.in-Item.is _ _ _ _ refl _
+    c.place_among-found-in-Farewell.ensures c.farewell_number_at-number.ensures c.farewell_filing-filing.ensures) }
 
 pub bounds-table-place-in-Farewell : goal.bounds-table-place-in-Farewell
-bounds-table-place-in-Farewell c = farewell-placed c
+bounds-table-place-in-Farewell c = farewell_within c.loop-step.invariant _ _ _ c.next_of-step.ensures c.in-Item.is _ _ _ _ refl _
+    c.place_among-found-in-Farewell.ensures c.farewell_number_at-number.ensures c.farewell_filing-filing.ensures
 
 pub row_after-row-requires-in-Farewell : goal.row_after-row-requires-in-Farewell
 row_after-row-requires-in-Farewell c =
-    omega (arith, (turn item).loop.invariant.few, some item)
+    omega (arith, c.loop-step.invariant.few, some_left c.loop-step.invariant _ _ _ c.next_of-step.ensures c.in-Item.is)
 
 pub loop-step-smaller-in-Farewell : goal.loop-step-smaller-in-Farewell
 loop-step-smaller-in-Farewell c =
-    omega (arith, some item)
+    omega (arith, some_left c.loop-step.invariant _ _ _ c.next_of-step.ensures c.in-Item.is)
 
 pub loop-step-preserved-in-Farewell : goal.loop-step-preserved-in-Farewell
 loop-step-preserved-in-Farewell c =
-    running_farewell (turn item).loop.invariant _ _ _ c.next_of-step.ensures
+    running_farewell c.loop-step.invariant _ _ _ c.next_of-step.ensures
     c.in-Item.is _ _ _ _ refl _
     c.place_among-found-in-Farewell.ensures c.farewell_number_at-number.ensures
     c.farewell_filing-filing.ensures _ c.in-Farewell.is c.row_after-row-in-Farewell.ensures
 
 pub loop-step-smaller-in-Settings : goal.loop-step-smaller-in-Settings
-loop-step-smaller-in-Settings c = omega (arith, some c)
+loop-step-smaller-in-Settings c = omega (arith, some_left c.loop-step.invariant _ _ _ c.next_of-step.ensures c.in-Item.is)
 
 pub loop-step-preserved-in-Settings : goal.loop-step-preserved-in-Settings
 loop-step-preserved-in-Settings c =
-    running_settings (turn item).loop.invariant _ _ _ c.next_of-step.ensures
+    running_settings c.loop-step.invariant _ _ _ c.next_of-step.ensures
     c.in-Item.is _ c.in-Settings.is
 
 pub returns-then-i-n : goal.returns-then-i-n
 returns-then-i-n c =
-    let pre = (start c).pre in
+    let pre = c.requires in
     let ended : _ =
     running_end c.loop-step.invariant _ _ c.next_of-step.ensures c.in-End.is
     c.put_row.ensures c.if-i-n.true pre.2 pre.4 in
@@ -158,31 +133,29 @@ returns-then-i-n c =
 
 pub entry_place-requires-in-End : goal.entry_place-requires-in-End
 entry_place-requires-in-End c =
-    let around = ending c in
-    let pre = (start around).pre in
-    omega (arith, pre.2, (good_layout _ pre.1).few, around.loop.inv.inside)
+    let pre = c.requires in
+    omega (arith, pre.2, (good_layout _ pre.1).few, c.loop-step.invariant.inside)
 
 pub entry_at-entry-requires-in-End : goal.entry_at-entry-requires-in-End
 entry_at-entry-requires-in-End c =
-    let around = ending c in
-    let pre = (start around).pre in
+    let pre = c.requires in
     let good : _ = good_layout _ pre.1 in
-    let less : _ = not_last _ _ around.loop.inv.inside c.if-i-n.false in (
+    let less : _ = not_last _ _ c.loop-step.invariant.inside c.if-i-n.false in (
       omega (arith, c.entry_place-in-End.ensures, good.contents, pre.2, less),
-      (running_inside around.loop.inv).1,
+      (running_inside c.loop-step.invariant).1,
       good.short,
     )
 
 pub count_entry-count-requires : goal.count_entry-count-requires
 count_entry-count-requires c =
-    let l = (ending last).loop in
-    listed_inside (start (ending last)).args.f.now _ _ _ _ (not_last _ _ l.inv.inside c.if-i-n.false)
-    l.inv.bodies (listed_at_lem _ _ c.entry_place-in-End.ensures refl c.entry_at-entry-in-End.ensures)
+    let l = c.loop-step in
+    listed_inside c.args.f.now _ _ _ _ (not_last _ _ l.invariant.inside c.if-i-n.false)
+    l.invariant.bodies (listed_at_lem _ _ c.entry_place-in-End.ensures refl c.entry_at-entry-in-End.ensures)
 
 pub loop-step-smaller : goal.loop-step-smaller
 loop-step-smaller c =
-    let l = (ending c).loop in
-    omega (arith, l.inv.inside, c.items_in-left-in-End.ensures, begins_few _ _ c.count_entry-count.ensures)
+    let l = c.loop-step in
+    omega (arith, l.invariant.inside, c.items_in-left-in-End.ensures, begins_few _ _ c.count_entry-count.ensures)
 
 pub loop-step-preserved : goal.loop-step-preserved
 loop-step-preserved c =
