@@ -36,8 +36,8 @@ use Rattle.datagram.specs.Walk.{walking, walk}
 use Rattle.datagram.specs.Datagram.{packet_check, packet_items, datagram_check, datagram_items}
 use Rattle.intake.specs.Datagrams.{calls_in}
 use Rattle.replay.specs.Recording.{entries_from, bodies_end, entries_in, is_bad_layout}
-use Rattle.replay.specs.Replay.{entry_calls, accepted_in, first_refusal, entry_row, calls_of_entries, entry_rows, last_reading}
-use Rattle.replay.specs.Replay.{replayed, replayed_rows}
+use Rattle.replay.specs.Replay.{entry_calls, accepted_in, first_refusal, entry_row, calls_of_entries, entry_rows}
+use Rattle.replay.specs.Replay.{last_reading, replayed, replayed_rows}
 use Rattle.writer.specs.Messages.{report_is_unwritable}
 use Rattle.cases.specs.Cases.{opening, seconds, reading, ten, twenty, in_turn, holding, unit_calls, papers, AllHold}
 use Rattle.register.proofs.Rows.{clash}
@@ -81,13 +81,14 @@ quarters same = omega (arith, same)
 -- ---- all of them
 
 pub papers_hold : AllHold papers
-unfolding AllHold papers difference_mod step unwrapped expanded delay same_bytes same_origin count_trailing_zeros is_held held_in
-    lowest_free with_place without_place report_checks farewell_checks records_of lateness latest empty_table marked_at place_at
-    place_of filter_word opened number_of filed refused_by answered latest_target choice_among choice_of answers_from table_from
-    report_is_unwritable report_calls burst_checks burst_answered burst_answers_after be16 be32 be64 entries_from bodies_end
-    entries_in is_bad_layout entry_calls accepted_in first_refusal entry_row calls_of_entries entry_rows last_reading replayed
-    replayed_rows packet_check packet_items datagram_check datagram_items calls_in walking walk padding_is_bad content kind_of
-    first_is_bad head_check readable block_check report_at block_items unit_calls AllAccepted filter any settings_checks suits
+unfolding AllHold papers difference_mod step unwrapped expanded delay same_bytes same_origin count_trailing_zeros
+    is_held held_in lowest_free with_place without_place report_checks farewell_checks records_of lateness latest
+    empty_table marked_at place_at place_of filter_word opened number_of filed refused_by answered latest_target
+    choice_among choice_of answers_from table_from report_is_unwritable report_calls burst_checks burst_answered
+    burst_answers_after be16 be32 be64 entries_from bodies_end entries_in is_bad_layout entry_calls accepted_in
+    first_refusal entry_row calls_of_entries entry_rows last_reading replayed replayed_rows packet_check
+    packet_items datagram_check datagram_items calls_in walking walk padding_is_bad content kind_of first_is_bad
+    head_check readable block_check report_at block_items unit_calls AllAccepted filter any settings_checks suits
     verdict_by verdict verdict_on
 papers_hold = (
   (refl, refl),

@@ -396,7 +396,8 @@ abbrev pub E8OnePlaceLeft : Type 0
 E8OnePlaceLeft =
     (answers_from one_place_left (in_turn ten twenty) ≡ 0 ∷ 18 ∷ [])
     × (answers_from one_place_left (in_turn twenty ten) ≡ 0 ∷ 18 ∷ [])
-    × (AlikeButPlaces (table_from one_place_left (in_turn ten twenty)) (table_from one_place_left (in_turn twenty ten)) → ⊥)
+    × (AlikeButPlaces (table_from one_place_left (in_turn ten twenty))
+    (table_from one_place_left (in_turn twenty ten)) → ⊥)
 
 -- and so are different source numbers: of two reports of one unit the last stands
 abbrev pub E8OneNumber : Type 0
@@ -418,7 +419,8 @@ packet_at units = packet_of 42 (seconds 998) 8820000 (seconds 998 + units)
 abbrev pub verdict_with : Settings → (slack : ℕ) → Verdict
 verdict_with s slack = verdict_on (holding ten twenty) s reading slack
 
--- document 02, E9: our own choice passes with slack 0, and P1's own times do not, which suit the least late member alone
+-- document 02, E9: our own choice passes with slack 0, and P1's own times do not, which suit the least late member
+-- alone
 abbrev pub E9Own : Type 0
 E9Own =
     (verdict_with (packet_at 0xC0000000) 0 ≡ Verdict.Yes)

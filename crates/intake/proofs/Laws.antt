@@ -278,7 +278,9 @@ module _ (t : Table) (reduced : Bool) (d : List ℕ) (origin : Origin) (at : Rea
     many : count ≡ length calls
     many = h ∙ sym (length_calls origin at (given n d c)) ∙ ap length same_calls
 
-    pub answered-short : length answers < count → Answers (record { number = short_buffer; place = 0; count = 0; table = t }) answers
+    pub answered-short :
+        length answers < count
+        → Answers (record { number = short_buffer; place = 0; count = 0; table = t }) answers
     unfolding datagram_answered answers_after
     answered-short less =
         let short : length answers < length calls = omega (arith, many) in

@@ -1,8 +1,8 @@
 -- Document 02, E8, of whole datagrams: two of them may arrive in either order (theorem: proofs/ArrivalOrder.antt).
 --
--- To be believed besides: of `table` ArrivalOrder, with what its head names; `datagram_calls` (Reaching), with what that
--- head names. `datagram_answered` and `answers_after` stand for what `take_datagram` answers and what it leaves in the
--- lent list.
+-- To be believed besides: of `table` ArrivalOrder, with what its head names; `datagram_calls` (Reaching), with what
+-- that head names. `datagram_answered` and `answers_after` stand for what `take_datagram` answers and what it leaves in
+-- the lent list.
 use Rattle.std.specs.Prelude.{ℕ, Bool, List, ◌++◌}
 use Rattle.origin.specs.declared.Origin.{Origin}
 use Rattle.register.specs.declared.Reading.{Reading}

@@ -97,7 +97,8 @@ module _ (o : Opening) (calls : List Call) (t : Table) (members : Members) where
         (place : ℕ) (r : Report) → item_of reduced d index ≡ Found.Item (record { place = place; item = Item.Report r })
         → OneMade (Call.report (record_of r origin) at) (taken t (Item.Report r) origin at)
     pub farewell :
-        (place source : ℕ) → item_of reduced d index ≡ Found.Item (record { place = place; item = Item.Farewell source })
+        (place source : ℕ)
+        → item_of reduced d index ≡ Found.Item (record { place = place; item = Item.Farewell source })
         → OneMade (Call.farewell source origin) (taken t (Item.Farewell source) origin at)
     pub settings :
         (place : ℕ) (s : Settings)

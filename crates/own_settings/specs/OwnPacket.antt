@@ -36,8 +36,8 @@ pub record PassesOwn (o : Opening) (rows : Rows) (t : Table) (at : Reading) (s :
         (settings_checked t item at 0).verdict
         ≡ cond (is_arrival o at rows) (Verdict.Refused badly_presented) Verdict.Yes
 
--- for any table that demand 3's calls can leave, every reading at which there is a target, every sender whose packet has
--- fields in the ranges of their types, and every buffer that is long enough
+-- for any table that demand 3's calls can leave, every reading at which there is a target, every sender whose packet
+-- has fields in the ranges of their types, and every buffer that is long enough
 abbrev pub EveryOwnPacket : Type 0
 EveryOwnPacket =
     (o : Opening) (calls : List Call) (t : Table) (members : Members) → Reached o calls t members →

@@ -60,7 +60,8 @@ row_answered o before e here =
 -- the choice behind the last entry is the register's
 choice-answered :
     (o : Opening) (before : List RecordedDatagram) (last : RecordedDatagram)
-    → let es = before ++ last ∷ [] in Reached o (calls_of_entries es) (table_after_entries o es) (members_after_entries o es)
+    → let es = before ++ last ∷ [] in
+    Reached o (calls_of_entries es) (table_after_entries o es) (members_after_entries o es)
     → choice_at_end (opened o).table es ≡ choice o last.at (records_of (members_after_entries o es))
 choice-answered o before last here =
     choice-behind (opened o).table before last

@@ -3,9 +3,9 @@
 -- opened for its head: so all that table History and register Letter say of a table that calls reach, they say of the
 -- table that any first entries leave, though the call hands none back; each entry's row counts the register's answers,
 -- and the choice is the register's. What a program prints of it is tested and not proved.
--- To be believed besides: Recording; of Replay `entry_row_length`, `entry_calls`, `entry_row_with`, `calls_of_entries` and
--- what they use, `calls_in` (intake Datagrams) and `record_of` (table Intake) among it; and what reading gives (datagram
--- Datagram with what it uses of `packet` and `packet_checks`).
+-- To be believed besides: Recording; of Replay `entry_row_length`, `entry_calls`, `entry_row_with`, `calls_of_entries`
+-- and what they use, `calls_in` (intake Datagrams) and `record_of` (table Intake) among it; and what reading gives
+-- (datagram Datagram with what it uses of `packet` and `packet_checks`).
 use Rattle.std.specs.Prelude.{ℕ, ◌*◌, ◌≤◌, ◌<◌, ◌≡◌, true, false, List, [], ◌∷◌, ◌++◌, length, take, drop}
 use Rattle.refusals.specs.Refusals.{short_buffer, bad_opening, none_counted, bad_layout}
 use Rattle.packet.specs.Bytes.{AreBytes}

@@ -1,5 +1,5 @@
--- What the code holds while it takes an entry: where its body lies, the step before, how many of its items are left, and
--- its row so far.
+-- What the code holds while it takes an entry: where its body lies, the step before, how many of its items are left,
+-- and its row so far.
 use Rattle.std.specs.Prelude.{ℕ, ◌+◌, ◌-◌, List, [], ◌∷◌, cond, eqb, take, drop}
 use Rattle.datagram.specs.declared.Count.{Count}
 use Rattle.rtcp.specs.declared.cursor.Cursor.{Cursor}

@@ -22,8 +22,10 @@ loop-left-preserved c =
     let d = c.args.d.now in
     let gave : _ = sym c.next_item.ensures ∙ c.in-Item.is in
     let front : _ =
-    ap call_count (given-item c.loop-left.left d c.loop-left.cursor _ _ c.loop-left-test.true gave) ∙ count_front _ _ in
-    (omega (arith, c.loop-left.invariant.0, c.calls_of-calls.ensures.1), omega (arith, c.loop-left.invariant.1, c.calls_of-calls.ensures.0, front))
+    ap call_count (given-item c.loop-left.left d c.loop-left.cursor _ _ c.loop-left-test.true gave) ∙ count_front _ _ in (
+      omega (arith, c.loop-left.invariant.0, c.calls_of-calls.ensures.1),
+      omega (arith, c.loop-left.invariant.1, c.calls_of-calls.ensures.0, front),
+    )
 
 pub returns : goal.returns
 returns c =

@@ -9,7 +9,8 @@ use Rattle.intake.proofs.count_calls.Given as goal
 
 abbrev pub invariant-loop-left : goal.invariant-loop-left
 invariant-loop-left l =
-    (l.calls + l.left ≤ l.n) × (l.calls + call_count (given l.left l.d l.cursor) ≡ call_count (given l.n l.d l.initial.cursor))
+    (l.calls + l.left ≤ l.n)
+    × (l.calls + call_count (given l.left l.d l.cursor) ≡ call_count (given l.n l.d l.initial.cursor))
 
 abbrev pub decreases-loop-left : goal.decreases-loop-left
 decreases-loop-left l =

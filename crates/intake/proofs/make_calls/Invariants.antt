@@ -9,7 +9,8 @@ use Rattle.intake.proofs.make_calls.Given as goal
 
 abbrev pub invariant-loop-left : goal.invariant-loop-left
 invariant-loop-left l =
-    CallsLeft l.initial.table l.initial.answers (calls_in l.origin l.at (given l.n l.d l.initial.cursor)) l.table l.answers l.place
+    CallsLeft l.initial.table l.initial.answers (calls_in l.origin l.at (given l.n l.d l.initial.cursor))
+    l.table l.answers l.place
     (calls_in l.origin l.at (given l.left l.d l.cursor))
 
 abbrev pub decreases-loop-left : goal.decreases-loop-left

@@ -184,7 +184,8 @@ module _
             (sym (row_more row a.number (answers_from a.table rest)) ∙ ap (row_with_more row) (sym numbers))
             ∙ ap
             (λ (u : Table).
-            sets rows (entry_row_length * i) (row_with_more row (answers_from t calls) ++ entry_rows u later)) (sym after)
+            sets rows (entry_row_length * i) (row_with_more row (answers_from t calls) ++ entry_rows u later))
+            (sym after)
             ∙ l.rows_are;
         choice_is = l.choice_is;
       }

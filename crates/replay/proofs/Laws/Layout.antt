@@ -121,8 +121,9 @@ pub record GoodLayout (f : List ℕ) : Type 0 where
 pub good_layout : (f : List ℕ) → is_bad_layout f ≡ false → GoodLayout f
 unfolding is_bad_layout
 good_layout f e =
-    go (ltb recording_limit (length f)) refl (ltb (length f) recording_head_size) refl (ltb entry_limit (entry_count f)) refl
-    (ltb (length f) (entry_place (entry_count f))) refl (eqb (bodies f) (length f)) refl e
+    go (ltb recording_limit (length f)) refl (ltb (length f) recording_head_size) refl
+    (ltb entry_limit (entry_count f)) refl (ltb (length f) (entry_place (entry_count f))) refl
+    (eqb (bodies f) (length f)) refl e
   where
     go :
         (a : Bool) → ltb recording_limit (length f) ≡ a
@@ -160,7 +161,11 @@ module _ (f : List ℕ) (a : length f ≤ recording_limit) (b : recording_head_s
   pub bad_count : entry_limit < entry_count f → true ≡ is_bad_layout f
   unfolding is_bad_layout
   bad_count h =
-      rw (le-ltb recording_limit (length f) a, le-ltb (length f) recording_head_size b, lt-ltb entry_limit (entry_count f) h)
+      rw (
+        le-ltb recording_limit (length f) a,
+        le-ltb (length f) recording_head_size b,
+        lt-ltb entry_limit (entry_count f) h,
+      )
       refl
 
   module _ (c : entry_count f ≤ entry_limit) where

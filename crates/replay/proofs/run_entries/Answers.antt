@@ -58,16 +58,26 @@ pub slice_bounds-place_among-end : goal.slice_bounds-place_among-end
 slice_bounds-place_among-end c = sym c.loop-step.invariant.many
 
 pub offset_bounds-sources-place : goal.offset_bounds-sources-place
-offset_bounds-sources-place c = record { fits = omega (arith, report_within c.loop-step.invariant _ _ _ c.next_of-step.ensures c.in-Item.is _ _ _ _ refl _
-    c.place_among-found.ensures c.report_number_at-number.ensures c.report_filing-filing.ensures) }
+offset_bounds-sources-place c = record {
+  fits = omega (
+    arith,
+    report_within c.loop-step.invariant _ _ _ c.next_of-step.ensures c.in-Item.is _ _ _ _ refl _
+        c.place_among-found.ensures c.report_number_at-number.ensures c.report_filing-filing.ensures,
+  );
+}
 
 pub bounds-sources-place : goal.bounds-sources-place
 bounds-sources-place c = report_within c.loop-step.invariant _ _ _ c.next_of-step.ensures c.in-Item.is _ _ _ _ refl _
     c.place_among-found.ensures c.report_number_at-number.ensures c.report_filing-filing.ensures
 
 pub offset_bounds-table-place : goal.offset_bounds-table-place
-offset_bounds-table-place c = record { fits = omega (arith, report_within c.loop-step.invariant _ _ _ c.next_of-step.ensures c.in-Item.is _ _ _ _ refl _
-    c.place_among-found.ensures c.report_number_at-number.ensures c.report_filing-filing.ensures) }
+offset_bounds-table-place c = record {
+  fits = omega (
+    arith,
+    report_within c.loop-step.invariant _ _ _ c.next_of-step.ensures c.in-Item.is _ _ _ _ refl _
+        c.place_among-found.ensures c.report_number_at-number.ensures c.report_filing-filing.ensures,
+  );
+}
 
 pub bounds-table-place : goal.bounds-table-place
 bounds-table-place c = report_within c.loop-step.invariant _ _ _ c.next_of-step.ensures c.in-Item.is _ _ _ _ refl _
@@ -93,11 +103,17 @@ pub slice_bounds-place_among-end-in-Farewell : goal.slice_bounds-place_among-end
 slice_bounds-place_among-end-in-Farewell c = sym c.loop-step.invariant.many
 
 pub offset_bounds-table-place-in-Farewell : goal.offset_bounds-table-place-in-Farewell
-offset_bounds-table-place-in-Farewell c = record { fits = omega (arith, farewell_within c.loop-step.invariant _ _ _ c.next_of-step.ensures c.in-Item.is _ _ _ _ refl _
-    c.place_among-found-in-Farewell.ensures c.farewell_number_at-number.ensures c.farewell_filing-filing.ensures) }
+offset_bounds-table-place-in-Farewell c = record {
+  fits = omega (
+    arith,
+    farewell_within c.loop-step.invariant _ _ _ c.next_of-step.ensures c.in-Item.is _ _ _ _ refl _
+        c.place_among-found-in-Farewell.ensures c.farewell_number_at-number.ensures c.farewell_filing-filing.ensures,
+  );
+}
 
 pub bounds-table-place-in-Farewell : goal.bounds-table-place-in-Farewell
-bounds-table-place-in-Farewell c = farewell_within c.loop-step.invariant _ _ _ c.next_of-step.ensures c.in-Item.is _ _ _ _ refl _
+bounds-table-place-in-Farewell c =
+    farewell_within c.loop-step.invariant _ _ _ c.next_of-step.ensures c.in-Item.is _ _ _ _ refl _
     c.place_among-found-in-Farewell.ensures c.farewell_number_at-number.ensures c.farewell_filing-filing.ensures
 
 pub row_after-row-requires-in-Farewell : goal.row_after-row-requires-in-Farewell
@@ -116,7 +132,8 @@ loop-step-preserved-in-Farewell c =
     c.farewell_filing-filing.ensures _ c.in-Farewell.is c.row_after-row-in-Farewell.ensures
 
 pub loop-step-smaller-in-Settings : goal.loop-step-smaller-in-Settings
-loop-step-smaller-in-Settings c = omega (arith, some_left c.loop-step.invariant _ _ _ c.next_of-step.ensures c.in-Item.is)
+loop-step-smaller-in-Settings c =
+    omega (arith, some_left c.loop-step.invariant _ _ _ c.next_of-step.ensures c.in-Item.is)
 
 pub loop-step-preserved-in-Settings : goal.loop-step-preserved-in-Settings
 loop-step-preserved-in-Settings c =

@@ -1,8 +1,5 @@
 -- One item after the other, and one entry after the other: `Running` says what is left. The measure counts the entries
 -- left, each as more than a datagram has items, and the items left.
--- ---- paths: the turn of an item that is taken, that of an entry that ends, and the function's start
--- ---- an item
--- ---- the entry is over
 use Prim.Native.Nat.{◌+◌, ◌-◌, ◌*◌, ◌<◌}
 use mathlib.Core.Path.{refl, sym, ap, ◌∙◌}
 use native.Mathlib.Omega.{arith}
@@ -18,7 +15,8 @@ use Rattle.replay.proofs.run_entries.Given as goal
 
 abbrev pub invariant-loop-step : goal.invariant-loop-step
 invariant-loop-step l =
-    Running l.f l.n l.initial.table l.initial.rows l.table l.sources l.rows l.i l.entry l.left (cursor_behind l.step) l.row
+    Running l.f l.n l.initial.table l.initial.rows l.table l.sources l.rows l.i l.entry l.left (cursor_behind l.step)
+    l.row
 
 abbrev pub decreases-loop-step : goal.decreases-loop-step
 decreases-loop-step l =

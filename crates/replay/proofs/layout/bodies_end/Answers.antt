@@ -24,7 +24,8 @@ loop-i-preserved c =
     c.read16.ensures ∙ ap (λ (p : ℕ). body_length args.f.now p) c.entry_place.ensures in (
       omega arith,
       omega (arith, c.loop-i.invariant.1),
-      ap (bodies_end args.f.now (args.n - (c.loop-i.i + 1)) (entry_place (c.loop-i.i + 1))) (ap (λ (k : ℕ). c.loop-i.end + k) length)
+      ap (bodies_end args.f.now (args.n - (c.loop-i.i + 1)) (entry_place (c.loop-i.i + 1)))
+          (ap (λ (k : ℕ). c.loop-i.end + k) length)
           ∙ sym (bodies_next args.f.now args.n c.loop-i.i c.loop-i.end within)
           ∙ c.loop-i.invariant.2,
     )

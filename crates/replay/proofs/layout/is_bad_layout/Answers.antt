@@ -22,7 +22,8 @@ pub returns-then-f-entry_place : goal.returns-then-f-entry_place
 returns-then-f-entry_place c =
     let count = c.read32-n.ensures in
     bad_contents _ c.if-f-gt-RECORDING_LIMIT.false c.if-f-lt-HEAD_SIZE.false
-    (omega (arith, count, c.if-n-gt-ENTRY_LIMIT.false)) (omega (arith, count, c.entry_place.ensures, c.if-f-entry_place.true))
+    (omega (arith, count, c.if-n-gt-ENTRY_LIMIT.false))
+    (omega (arith, count, c.entry_place.ensures, c.if-f-entry_place.true))
 
 pub returns : goal.returns
 returns c =
