@@ -24,16 +24,16 @@ test:
 	@tools/test
 
 run:
-	rt check receiving_bench
+	tools/program receiving_bench
 	target/bin/receiving_bench < crates/receiving_bench/stdin
 
 show:
-	rt check show_datagram
+	tools/program show_datagram
 	target/bin/show_datagram < samples/compound.bin
 	target/bin/show_datagram --reduced-size < samples/reduced.bin
 
 replay:
-	rt check replay_recording
+	tools/program replay_recording
 	target/bin/replay_recording < crates/replay_recording/stdin
 
 archive:

@@ -3,48 +3,57 @@
 // records.
 #![tactic(auto)]
 
+mod input;
 mod print;
 mod records;
 
+use crate::input::read_full;
 use crate::print::print_datagram;
 use crate::records::run_cases;
-use libc::{STDIN_FILENO, STDOUT_FILENO};
+use std::env::FillError;
+use std::io;
+use std::rt::Env;
 
-fn show_input(reduced: bool) {
+fn show_input(rt: &(impl Input + Print), reduced: bool) -> io::Result<()> {
     // Longer than any datagram that is not refused, so a part of a longer one gets the whole one's refusal.
-    let mut buf = io::buffer();
-    let n = io::read_full(STDIN_FILENO, &mut buf);
-    print_datagram(&buf[..n], reduced);
+    let mut buf = [0u8; 4096];
+    let n = read_full(&mut rt.reader(), &mut buf)?;
+    print_datagram(rt, &buf[..n], reduced)
 }
 
-fn run_input() {
-    // The records of all cases are some 50,000 bytes: more than io::buffer holds.
-    let mut buf = io::large_buffer();
-    let n = io::read_full(STDIN_FILENO, &mut buf);
-    run_cases(&buf[..n]);
+fn run_input(rt: &(impl Input + Print)) -> io::Result<()> {
+    // The records of all cases are some 50,000 bytes.
+    let mut buf = [0u8; 65536];
+    let n = read_full(&mut rt.reader(), &mut buf)?;
+    run_cases(rt, &buf[..n])
 }
 
-// Whether the first argument is this word, which is no longer than `--reduced-size`. Of a longer argument os::arg
-// answers no bytes.
-fn asks_for(word: &[u8]) -> bool {
+// Whether there is an argument at an index. The program's own name is at 0.
+fn is_given(rt: &impl Env, index: usize) -> bool {
+    let mut argument = [0u8; 1];
+    match rt.arg(index, &mut argument) {
+        Ok(_) | Err(FillError::TooLong) => true,
+        Err(FillError::NotPresent) => false,
+    }
+}
+
+// Whether the first argument is this word, which is no longer than `--reduced-size`.
+fn asks_for(rt: &impl Env, word: &[u8]) -> bool {
     let mut argument = [0u8; 14];
-    let n = os::arg(1, &mut argument);
-    check::same(&argument[..n], word)
+    match rt.arg(1, &mut argument) {
+        Ok(n) => &argument[..n] == word,
+        Err(_) => false,
+    }
 }
 
-fn main() {
-    // The program's own name counts as one.
-    let words = os::arg_count();
-    if words < 2 {
-        show_input(false);
-    } else if words == 2 && asks_for(b"--reduced-size") {
-        show_input(true);
-    } else if words == 2 && asks_for(b"records") {
-        run_input();
+fn main(rt: HostRuntime) -> io::Result<()> {
+    if !is_given(&rt, 1) {
+        show_input(&rt, false)
+    } else if !is_given(&rt, 2) && asks_for(&rt, b"--reduced-size") {
+        show_input(&rt, true)
+    } else if !is_given(&rt, 2) && asks_for(&rt, b"records") {
+        run_input(&rt)
     } else {
-        io::write_all(
-            STDOUT_FILENO,
-            b"usage: show_datagram [--reduced-size | records]\n",
-        );
+        println!(rt; "usage: show_datagram [--reduced-size | records]")
     }
 }

@@ -9,10 +9,10 @@
 //   8 bytes   the index, or 0
 //   2 bytes   the length of the datagram
 //             the datagram
-ghost use Rattle.std.specs.Prelude.{◌≤◌, ◌<◌, length};
+ghost use Rattle.std.specs.Prelude.{IfOk, ◌≤◌, ◌<◌, length};
 
 use crate::print::{print_datagram, print_found};
-use libc::STDOUT_FILENO;
+use std::io;
 
 // What stands at a place, and 0 past the end.
 fn byte_at(s: &[u8], at: usize) -> u8 {
@@ -42,32 +42,31 @@ fn read64(s: &[u8], at: usize) -> u64
 }
 
 // The answer at an index, which is printed above it.
-fn print_indexed(d: &[u8], reduced: bool, index: u64) {
-    io::write_all(STDOUT_FILENO, b"index ");
-    io::print_decimal(STDOUT_FILENO, index);
-    io::write_all(STDOUT_FILENO, b"\n");
-    print_found(rtcp::item_at(d, reduced, index as usize));
+fn print_indexed(rt: &impl Print, d: &[u8], reduced: bool, index: u64) -> io::Result<()> {
+    println!(rt; "index {index}")?;
+    print_found(rt, rtcp::item_at(d, reduced, index as usize))
 }
 
-fn print_name(name: &[u8]) {
-    io::write_all(STDOUT_FILENO, b"case ");
-    io::write_all(STDOUT_FILENO, name);
-    io::write_all(STDOUT_FILENO, b"\n");
+// A name need not be text.
+fn print_name(rt: &impl Print, name: &[u8]) -> io::Result<()> {
+    rt.write_all(b"case ")?;
+    rt.write_all(name)?;
+    rt.write_all(b"\n")
 }
 
 // Whether reduced size was agreed.
-fn print_size(reduced: bool) {
+fn print_size(rt: &impl Print, reduced: bool) -> io::Result<()> {
     if reduced {
-        io::write_all(STDOUT_FILENO, b"reduced size agreed\n");
+        println!(rt; "reduced size agreed")
     } else {
-        io::write_all(STDOUT_FILENO, b"reduced size not agreed\n");
+        println!(rt; "reduced size not agreed")
     }
 }
 
 // Runs the case whose record is at a place, and answers where the next record is.
-fn run_case(s: &[u8], at: usize) -> usize
+fn run_case(rt: &impl Print, s: &[u8], at: usize) -> io::Result<usize>
     requires { (at < length s.now) × (length s.now ≤ 65536) }
-    ensures { at < result }
+    ensures { IfOk result (λ next. at < next) }
 {
     let name = at + 1;
     let size = name + byte_at(s, at) as usize;
@@ -75,26 +74,27 @@ fn run_case(s: &[u8], at: usize) -> usize
     let datagram = flag + 11;
     let next = datagram + read16(s, flag + 9);
     if s.len() < next {
-        io::write_all(STDOUT_FILENO, b"record cut off\n");
-        return s.len();
+        println!(rt; "record cut off")?;
+        return Ok(s.len());
     }
-    print_name(&s[name..size]);
+    print_name(rt, &s[name..size])?;
     let reduced = byte_at(s, size) == 1;
-    print_size(reduced);
+    print_size(rt, reduced)?;
     if byte_at(s, flag) == 0 {
-        print_datagram(&s[datagram..next], reduced);
+        print_datagram(rt, &s[datagram..next], reduced)?;
     } else {
-        print_indexed(&s[datagram..next], reduced, read64(s, flag + 1));
+        print_indexed(rt, &s[datagram..next], reduced, read64(s, flag + 1))?;
     }
-    next
+    Ok(next)
 }
 
 // Runs every case in turn.
-pub(crate) fn run_cases(s: &[u8])
+pub(crate) fn run_cases(rt: &impl Print, s: &[u8]) -> io::Result<()>
     requires { length s.now ≤ 65536 }
 {
     let mut at = 0;
     while at < s.len() {
-        at = run_case(s, at);
+        at = run_case(rt, s, at)?;
     }
+    Ok(())
 }

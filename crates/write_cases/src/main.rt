@@ -6,6 +6,7 @@ mod print;
 
 use crate::print::{print_answer, print_words};
 use idms::{Report, Settings};
+use std::io;
 
 // The report of P5: received 998 s, presented 998.75 s.
 fn p5() -> Report {
@@ -34,83 +35,93 @@ fn p3() -> Settings {
 }
 
 // A refusal would leave the zeros.
-fn show_report() {
+fn show_report(rt: &impl Print) -> io::Result<()> {
     let mut buf = [0u8; 40];
     writer::write_report(p5(), &mut buf);
-    print_words(b"report p5", &buf);
+    print_words(rt, "report p5", &buf)
 }
 
-fn show_settings() {
+fn show_settings(rt: &impl Print) -> io::Result<()> {
     let mut buf = [0u8; 36];
     writer::write_settings(p3(), &mut buf);
-    print_words(b"settings p3", &buf);
+    print_words(rt, "settings p3", &buf)
 }
 
-fn answer_report(name: &[u8], r: Report, buf: &mut [u8]) {
-    print_answer(name, writer::write_report(r, buf));
+fn answer_report(rt: &impl Print, name: &str, r: Report, buf: &mut [u8]) -> io::Result<()> {
+    print_answer(rt, name, writer::write_report(r, buf))
 }
 
-fn answer_settings(name: &[u8], s: Settings, buf: &mut [u8]) {
-    print_answer(name, writer::write_settings(s, buf));
+fn answer_settings(rt: &impl Print, name: &str, s: Settings, buf: &mut [u8]) -> io::Result<()> {
+    print_answer(rt, name, writer::write_settings(s, buf))
 }
 
 // Refusals, and the empty group, which may be written. The last case has two faults, and 11 comes before 10.
-fn answer_all_reports() {
+fn answer_all_reports(rt: &impl Print) -> io::Result<()> {
     let mut buf = [0u8; 40];
     let mut payload = p5();
     payload.payload_type = 128;
-    answer_report(b"report payload type 128", payload, &mut buf);
+    answer_report(rt, "report payload type 128", payload, &mut buf)?;
     let mut arrival = p5();
     arrival.p = false;
     arrival.presented = 1;
-    answer_report(b"report p 0 with presented 1", arrival, &mut buf);
+    answer_report(rt, "report p 0 with presented 1", arrival, &mut buf)?;
     let mut group = p5();
     group.group = 4294967295;
-    answer_report(b"report group 4294967295", group, &mut buf);
+    answer_report(rt, "report group 4294967295", group, &mut buf)?;
     group.group = 0;
-    answer_report(b"report group 0", group, &mut buf);
+    answer_report(rt, "report group 0", group, &mut buf)?;
     let mut short = [0u8; 39];
-    answer_report(b"report into 39 bytes", p5(), &mut short);
+    answer_report(rt, "report into 39 bytes", p5(), &mut short)?;
     let mut none = [0u8; 0];
-    answer_report(b"report payload type 128 into 0 bytes", payload, &mut none);
+    answer_report(
+        rt,
+        "report payload type 128 into 0 bytes",
+        payload,
+        &mut none,
+    )
 }
 
 // The same for settings, of which only the group can be out of range.
-fn answer_all_settings() {
+fn answer_all_settings(rt: &impl Print) -> io::Result<()> {
     let mut buf = [0u8; 36];
     let mut group = p3();
     group.group = 4294967295;
-    answer_settings(b"settings group 4294967295", group, &mut buf);
+    answer_settings(rt, "settings group 4294967295", group, &mut buf)?;
     let mut empty = p3();
     empty.group = 0;
-    answer_settings(b"settings group 0", empty, &mut buf);
+    answer_settings(rt, "settings group 0", empty, &mut buf)?;
     let mut short = [0u8; 35];
-    answer_settings(b"settings into 35 bytes", p3(), &mut short);
+    answer_settings(rt, "settings into 35 bytes", p3(), &mut short)?;
     let mut none = [0u8; 0];
-    answer_settings(b"settings group 4294967295 into 0 bytes", group, &mut none);
+    answer_settings(
+        rt,
+        "settings group 4294967295 into 0 bytes",
+        group,
+        &mut none,
+    )
 }
 
 // The word behind a message, in a buffer with room for more.
-fn show_behind() {
+fn show_behind(rt: &impl Print) -> io::Result<()> {
     let mut buf = [0xAAu8; 44];
     writer::write_report(p5(), &mut buf);
-    print_words(b"behind report p5", &buf[40..]);
+    print_words(rt, "behind report p5", &buf[40..])
 }
 
 // The whole buffer, in which the refused message has room.
-fn show_untouched() {
+fn show_untouched(rt: &impl Print) -> io::Result<()> {
     let mut buf = [0xAAu8; 36];
     let mut s = p3();
     s.group = 4294967295;
     writer::write_settings(s, &mut buf);
-    print_words(b"untouched by settings group 4294967295", &buf);
+    print_words(rt, "untouched by settings group 4294967295", &buf)
 }
 
-fn main() {
-    show_report();
-    show_settings();
-    answer_all_reports();
-    answer_all_settings();
-    show_behind();
-    show_untouched();
+fn main(rt: HostRuntime) -> io::Result<()> {
+    show_report(&rt)?;
+    show_settings(&rt)?;
+    answer_all_reports(&rt)?;
+    answer_all_settings(&rt)?;
+    show_behind(&rt)?;
+    show_untouched(&rt)
 }

@@ -2,51 +2,43 @@
 ghost use Rattle.std.specs.Prelude.{◌<◌};
 
 use buffer::Written;
-use libc::STDOUT_FILENO;
+use std::io;
 
-// An upper-case hex digit, as the bench cases have them; io's are lower-case.
+// An upper-case hex digit, as the bench cases have them.
 fn digit(n: u8) -> u8
     requires { n < 16 }
 {
     if n < 10 { b'0' + n } else { b'A' + (n - 10) }
 }
 
-fn print_byte(b: u8) {
+fn print_byte(rt: &impl Print, b: u8) -> io::Result<()> {
     let digits = [digit(b / 16), digit(b % 16)];
-    io::write_all(STDOUT_FILENO, &digits);
+    rt.write_all(&digits)
 }
 
-fn print_line_end() {
-    io::write_all(STDOUT_FILENO, b"\n");
+fn print_line_end(rt: &impl Print) -> io::Result<()> {
+    println!(rt)
 }
 
 // One line: bytes as words of 8 digits.
-pub(crate) fn print_words(name: &[u8], bytes: &[u8]) {
-    io::write_all(STDOUT_FILENO, name);
-    io::write_all(STDOUT_FILENO, b":");
+pub(crate) fn print_words(rt: &impl Print, name: &str, bytes: &[u8]) -> io::Result<()> {
+    print!(rt; "{name}:")?;
     let mut i = 0;
     while i < bytes.len() {
         if i % 4 == 0 {
-            io::write_all(STDOUT_FILENO, b" ");
+            print!(rt; " ")?;
         }
-        print_byte(bytes[i]);
+        print_byte(rt, bytes[i])?;
         i += 1;
     }
-    print_line_end();
+    print_line_end(rt)
 }
 
 // One line: how many bytes were written, or the refusal's number.
-pub(crate) fn print_answer(name: &[u8], answer: Written) {
-    io::write_all(STDOUT_FILENO, name);
+pub(crate) fn print_answer(rt: &impl Print, name: &str, answer: Written) -> io::Result<()> {
     match answer {
-        Written::Bytes(n) => {
-            io::write_all(STDOUT_FILENO, b": wrote ");
-            io::print_decimal(STDOUT_FILENO, n as u64);
-        }
-        Written::Refused(n) => {
-            io::write_all(STDOUT_FILENO, b": refused ");
-            io::print_decimal(STDOUT_FILENO, n);
-        }
+        Written::Bytes(n) => print!(rt; "{name}: wrote {n}")?,
+        Written::Refused(n) => print!(rt; "{name}: refused {n}")?,
     }
-    print_line_end();
+    print_line_end(rt)
 }
