@@ -6,9 +6,11 @@ use Rattle.prunepocket.proofs.members.prunepocket_report_burst.Given as goal
 
 abbrev pub invariant-loop-i : goal.invariant-loop-i
 invariant-loop-i l =
-    (l.i ≤ l.checked.tried)
-    × (l.t ≡ after_singles l.fn.t l.fn.reports l.fn.at l.i)
-    × (l.answers ≡ list_after l.fn.t l.fn.reports l.fn.at l.fn.answers l.i)
+    record {
+      within : l.i ≤ l.checked.tried;
+      singles : l.t ≡ after_singles l.fn.t l.fn.reports l.fn.at l.i;
+      numbers : l.answers ≡ list_after l.fn.t l.fn.reports l.fn.at l.fn.answers l.i;
+    }
 
 abbrev pub decreases-loop-i : goal.decreases-loop-i
 decreases-loop-i l = l.checked.tried - l.i
