@@ -5,4 +5,4 @@ use Rattle.prunepocket.proofs.recordings.prunepocket_replay.Goals as goal
 
 pub returns : goal.returns
 returns c =
-    (c.answer_replay.ensures ∙ ap recording_answered c.replay.ensures.0, c.replay.ensures.1)
+    (c.answer_replay.ensures ∙ ap recording_answered c.replay.ensures.value, c.replay.ensures.rows_after)
