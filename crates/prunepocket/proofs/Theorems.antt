@@ -74,8 +74,8 @@ count_items_accepted reduced d = count-accepted (item_count reduced d) (λ r e. 
 
 -- prunepocket_read_items
 pub read_items_accepted :
-    (reduced : Bool) (d rows : List ℕ)
-    → ((count_answer (rows_answer reduced d rows)).number ≡ 0) ↔ ((n : ℕ) × (rows_answer reduced d rows ≡ Count.Items n))
+    (reduced : Bool) (d rows : List ℕ) →
+    ((count_answer (rows_answer reduced d rows)).number ≡ 0) ↔ ((n : ℕ) × (rows_answer reduced d rows ≡ Count.Items n))
 read_items_accepted reduced d rows =
     count-accepted (rows_answer reduced d rows)
     (λ r e. ⊎_elim (λ z. z.0) (λ z. omega arith) (rows_numbered reduced d rows r e))
@@ -218,7 +218,9 @@ module _ (t : Table) (reduced : Bool) (d : List ℕ) (origin : Origin) (at : Rea
 
 -- ---- choosing
 
-latest_target_numbered : (late : Record → ℤ) (count : ℕ) (rows : Rows) (n : ℕ) → latest_target late count rows ≡ Choice.Refused n → n ≡ none_counted
+latest_target_numbered :
+    (late : Record → ℤ) (count : ℕ) (rows : Rows) (n : ℕ) → latest_target late count rows ≡ Choice.Refused n →
+    n ≡ none_counted
 unfolding latest_target
 latest_target_numbered late count [] n e = cc
 latest_target_numbered late count (row ∷ rows) n e = let z : ◌≡◌ {A = ℕ} 0 1 = cc in absurd (omega arith)

@@ -28,8 +28,8 @@ pub struct Followed {
     pub table: Table,
 }
 
-// What checking a settings packet answers: 0 and whether it suits, 1 or 0, or a refusal's number and 0; and the table as
-// it was.
+// What checking a settings packet answers: 0 and whether it suits, 1 or 0, or a refusal's number and 0; and the table
+// as it was.
 #[repr(C)]
 #[derive(Clone, Copy)]
 pub struct SettingsAnswered {

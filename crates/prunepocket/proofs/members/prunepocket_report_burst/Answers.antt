@@ -24,16 +24,17 @@ bounds-answers-i c =
 pub loop-i-preserved : goal.loop-i-preserved
 loop-i-preserved c =
     let t = c.args.t in let xs = c.args.reports.now in let a = c.args.at in let i = c.loop-i.i in
+    let ys = c.args.answers.now in
     let told = rw c.loop-i.invariant.singles at c.filing-f.ensures.0 in
     let answer = filing_answers (after_singles t xs a i) (record_at xs i) a c.filing-f.result told in
     record {
       within = omega arith;
       singles =
-      rw (add-one i, c.loop-i.invariant.singles) (ap (λ (u : Answered). u.table) answer ∙ sym (table_next t xs a i));
+          rw (add-one i, c.loop-i.invariant.singles)
+          (ap (λ (u : Answered). u.table) answer ∙ sym (table_next t xs a i));
       numbers =
-      rw (add-one i, c.loop-i.invariant.numbers)
-      (ap (λ (u : Answered). set (list_after t xs a c.args.answers.now i) i u.number) answer
-      ∙ sym (list_next t xs a c.args.answers.now i));
+          rw (add-one i, c.loop-i.invariant.numbers)
+          (ap (λ (u : Answered). set (list_after t xs a ys i) i u.number) answer ∙ sym (list_next t xs a ys i));
     }
 
 pub returns : goal.returns
