@@ -1,8 +1,8 @@
 //! The functions of include/prunepocket.h, in its order.
 
 use crate::structs::{
-    Answer, Answered, DatagramAnswered, Followed, Origin, Place, Reading, Record,
-    RecordingAnswered, Settings, SettingsAnswered, Table,
+    Answer, Answered, DatagramAnswered, Followed, LatenessAnswered, Origin, Place, PlayoutClock,
+    Reading, Record, RecordingAnswered, Settings, SettingsAnswered, Table,
 };
 
 extern "C" {
@@ -96,4 +96,13 @@ extern "C" {
         rows: *mut u64,
         rows_length: usize,
     ) -> RecordingAnswered;
+    pub fn prunepocket_target_lateness(
+        group: u32,
+        media: u32,
+        rate: u32,
+        settings: Settings,
+        reading: Reading,
+    ) -> LatenessAnswered;
+    pub fn prunepocket_set_target(clock: *mut PlayoutClock, target: i64) -> u64;
+    pub fn prunepocket_tick(clock: *mut PlayoutClock) -> u64;
 }

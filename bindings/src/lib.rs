@@ -15,8 +15,8 @@ pub use messages::{
 };
 pub use recordings::replay;
 pub use structs::{
-    layout, Answer, Answered, DatagramAnswered, Followed, Member, Origin, Place, Reading, Record,
-    RecordingAnswered, ReportFields, Settings, SettingsAnswered, Table, Target, BURST_LIMIT,
-    ENTRY_ACCEPTED, ENTRY_ITEMS, ENTRY_LIMIT, ENTRY_NUMBER, ENTRY_ROW, PLACES, RECORDING_LIMIT,
-    SLACK_LIMIT, TALLY_LIMIT,
+    layout, Answer, Answered, DatagramAnswered, Followed, LatenessAnswered, Member, Origin, Place,
+    PlayoutClock, Reading, Record, RecordingAnswered, ReportFields, Settings, SettingsAnswered,
+    Table, Target, BURST_LIMIT, ENTRY_ACCEPTED, ENTRY_ITEMS, ENTRY_LIMIT, ENTRY_NUMBER, ENTRY_ROW,
+    PLACES, RECORDING_LIMIT, SLACK_LIMIT, TALLY_LIMIT,
 };

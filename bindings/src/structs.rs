@@ -202,4 +202,19 @@ c_structs! {
         /// Zeros where there is none.
         pub target: Target,
     }
+
+    /// How late a loudspeaker plays, how late it is to play, and the most by
+    /// which one tick changes the first.
+    pub struct PlayoutClock {
+        pub current: i64,
+        pub target: i64,
+        pub step: i64,
+    }
+
+    /// What the lateness of a settings packet's target answers.
+    pub struct LatenessAnswered {
+        pub number: u64,
+        /// 0 beside a refusal.
+        pub lateness: i64,
+    }
 }
