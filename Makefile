@@ -40,7 +40,7 @@ archive:
 	tools/archive
 
 # Proved anew only where a source is newer: whoever installs may have no kit.
-$(ARCHIVE): $(shell find crates -type f)
+$(ARCHIVE): $(shell find crates -name out -prune -o -type f -print)
 	tools/archive
 
 install: $(ARCHIVE)
@@ -69,4 +69,4 @@ fuzz-faults: archive
 	tools/fuzz-faults
 
 clean:
-	rm -rf target bindings/target tests/target bench/target
+	rm -rf target crates/*/out bindings/target tests/target bench/target
