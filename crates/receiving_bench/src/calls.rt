@@ -1,5 +1,5 @@
 // The steps that call the table. Each gives the answer that came and the table afterwards.
-use crate::datagrams::{put_bytes, read_farewell, read_report};
+use crate::datagrams::{BUFFER, put_bytes, read_farewell, read_report};
 use crate::forms::{
     BURST, FAREWELL, FILL, ITEMS, ITEMS_REFUSED, OPEN, REPORT, SEND_REPORT, SWEEP, TAKE, TAKE_NONE,
     TAKE_REFUSED,
@@ -185,7 +185,7 @@ fn read(table: Table, line: Line, d: &[u8], reduced: bool, reading: Reading) -> 
 
 // A step on the scene's datagram.
 pub(crate) fn read_datagram(table: Table, line: Line, scene: Scene, s: &[u8]) -> Told {
-    let mut buffer = io::buffer();
+    let mut buffer = [0u8; BUFFER];
     let n = put_bytes(s, scene.datagram, &mut buffer);
     let reading = scene.reading;
     read(table, line, &buffer[..n], scene.reduced, reading)

@@ -1,10 +1,13 @@
 // Datagrams: those of the text, those that a unit sends, an RR and a report or a farewell, and those of a server, an RR
 // and settings. The RR's source number is left 0, since no item has it.
-ghost use Rattle.io.specs.Counts.{IsPrefixLen};
+ghost use Rattle.receiving_bench.specs.Counts.{IsPrefixLen};
 
 use crate::numbers::{byte_among, words};
 use idms::{Found, Report, Settings};
 use register::{Record, Target};
+
+// How many bytes a buffer for a datagram or a recording has.
+pub(crate) const BUFFER: usize = 4096;
 
 // Puts the bytes of the words of hex that stand from a place on to the front of a buffer. Answers how many.
 pub(crate) fn put_bytes(s: &[u8], at: usize, d: &mut [u8]) -> usize
@@ -24,9 +27,9 @@ pub(crate) fn put_bytes(s: &[u8], at: usize, d: &mut [u8]) -> usize
 
 // Whether the words of hex from a place on are other bytes than these, as a number.
 fn other_bytes(s: &[u8], at: usize, d: &[u8]) -> u64 {
-    let mut buffer = io::buffer();
+    let mut buffer = [0u8; BUFFER];
     let n = put_bytes(s, at, &mut buffer);
-    !check::same(&buffer[..n], d) as u64
+    (&buffer[..n] != d) as u64
 }
 
 // Whether a report is written otherwise.

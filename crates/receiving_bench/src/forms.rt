@@ -1,6 +1,7 @@
 // The forms that a step can have, by number: the lines of the two tables below, in this order.
 use crate::lines::{Line, matched_among};
 use crate::print::print_line;
+use std::io;
 
 pub(crate) const TABLE: usize = 0;
 
@@ -190,8 +191,9 @@ pub(crate) fn matched(s: &[u8], at: usize) -> Line {
 }
 
 // What came, as a sentence. $ and two characters stand for a value of the line: how it is printed, and which one.
-pub(crate) fn print_came(line: Line, s: &[u8]) {
+pub(crate) fn print_came(rt: &impl Print, line: Line, s: &[u8]) -> io::Result<()> {
     print_line(
+        rt,
         b"\n\
           \n\
           \n\
@@ -252,5 +254,5 @@ pub(crate) fn print_came(line: Line, s: &[u8]) {
           \x20 target of the replay: none\n",
         line,
         s,
-    );
+    )
 }

@@ -4,6 +4,7 @@ use crate::lines::{Line, numbers_line, value, value32};
 use crate::quotes::{MOST_TEXT, print_text, put_text};
 use buffer::Written;
 use sdp::SyncGroup;
+use std::io;
 
 // What the reader answers on the line that the text has.
 fn read_line(line: Line, s: &[u8]) -> Line {
@@ -23,7 +24,7 @@ fn other_line(s: &[u8], at: usize, d: &[u8], n: usize) -> u64 {
     if put_text(s, at, &mut text) != n {
         return 1;
     }
-    !check::same(&text, d) as u64
+    (text.as_slice() != d) as u64
 }
 
 // What the writer answers, and whether it writes another line than the text has. Where the text has a refusal instead,
@@ -52,11 +53,11 @@ pub(crate) fn line_step(line: Line, s: &[u8]) -> Line {
 }
 
 // The line that the writer writes, as a text.
-pub(crate) fn print_written(group: u64) {
+pub(crate) fn print_written(rt: &impl Print, group: u64) -> io::Result<()> {
     let mut d = [0u8; MOST_TEXT];
     let w = sdp::write_sync_group((group % 4294967296) as u32, &mut d);
     let Written::Bytes(n) = w else {
-        return;
+        return Ok(());
     };
-    print_text(&d, n);
+    print_text(rt, &d, n)
 }

@@ -58,6 +58,9 @@
 // character stands for itself, and none is a double quote.
 #![tactic(auto)]
 
+ghost use Rattle.std.specs.Prelude.{IfOk};
+ghost use Rattle.receiving_bench.specs.Counts.{IsPrefixLen};
+
 mod calls;
 mod datagrams;
 mod forms;
@@ -75,6 +78,7 @@ mod settings;
 mod text;
 
 use crate::calls::{Told, call, read_datagram};
+use crate::datagrams::BUFFER;
 use crate::forms::{
     BURST, CHECK, CHECK_ITEM_REFUSED, ITEM_REFUSED, ITEMS, NO_REDUCED_SIZE, OPEN, PROSE, READ_LINE,
     READING, REPLAY, REPLAY_NO_TARGET, REPORT, TABLE, TAKE, UNCHANGED, UNCHANGED_BUT,
@@ -91,8 +95,9 @@ use crate::recordings::{recorded, replay_step};
 use crate::scene::{Scene, first_record, record_behind, scene_behind, usual};
 use crate::settings::check_settings;
 use crate::text::{byte_at, forward, line_end, print_part};
-use libc::{STDIN_FILENO, STDOUT_FILENO};
 use register::Record;
+use std::io;
+use std::io::Read;
 use table::Table;
 
 // How many answers were compared, and how many of them were as expected.
@@ -115,8 +120,8 @@ fn usual_table() -> Table {
     opening.table
 }
 
-fn end_line() {
-    io::write_all(STDOUT_FILENO, b"\n");
+fn end_line(rt: &impl Print) -> io::Result<()> {
+    rt.write_all(b"\n")
 }
 
 // The line at a place: a step where it starts with two spaces, and otherwise prose.
@@ -176,38 +181,45 @@ fn kept(earlier: Table, table: Table, form: usize) -> Table {
     if form < ITEMS { table } else { earlier }
 }
 
-fn not_understood(number: usize) -> u64 {
-    say(LINE);
-    print_number(forward(number, 1) as u64);
-    say(NOT_UNDERSTOOD);
-    end_line();
-    WRONG
+fn not_understood(rt: &impl Print, number: usize) -> io::Result<u64> {
+    say(rt, LINE)?;
+    print_number(rt, forward(number, 1) as u64)?;
+    say(rt, NOT_UNDERSTOOD)?;
+    end_line(rt)?;
+    Ok(WRONG)
 }
 
-fn as_it_stands(s: &[u8], at: usize) -> u64 {
-    print_part(s, at, line_end(s, at));
-    end_line();
-    NOTHING
+fn as_it_stands(rt: &impl Print, s: &[u8], at: usize) -> io::Result<u64> {
+    print_part(rt, s, at, line_end(s, at))?;
+    end_line(rt)?;
+    Ok(NOTHING)
 }
 
 // Prints what came, and whether it is what the text expects.
-fn compared(line: Line, came: Line, s: &[u8]) -> u64 {
+fn compared(rt: &impl Print, line: Line, came: Line, s: &[u8]) -> io::Result<u64> {
     let other = !same_line(line, came) as u64;
-    print_came(came, s);
-    say_either(other, EXPECTED);
-    end_line();
-    other
+    print_came(rt, came, s)?;
+    say_either(rt, other, EXPECTED)?;
+    end_line(rt)?;
+    Ok(other)
 }
 
 // Prints a line whose number counts from 0. Without an answer it is printed as it stands.
-fn printed(line: Line, came: Line, s: &[u8], at: usize, number: usize) -> u64 {
+fn printed(
+    rt: &impl Print,
+    line: Line,
+    came: Line,
+    s: &[u8],
+    at: usize,
+    number: usize,
+) -> io::Result<u64> {
     if line.at == NOWHERE {
-        return not_understood(number);
+        return not_understood(rt, number);
     }
     if line.form < OPEN || line.form == PROSE {
-        return as_it_stands(s, at);
+        return as_it_stands(rt, s, at);
     }
-    compared(line, came, s)
+    compared(rt, line, came, s)
 }
 
 fn scored(score: Score, outcome: u64) -> Score {
@@ -225,20 +237,20 @@ fn scored(score: Score, outcome: u64) -> Score {
     }
 }
 
-fn ended(score: Score) {
-    say(BENCH);
-    print_number(score.expected);
-    say(OF);
-    print_number(score.compared);
-    say(AS_EXPECTED);
-    end_line();
+fn ended(rt: &impl Print, score: Score) -> io::Result<()> {
+    say(rt, BENCH)?;
+    print_number(rt, score.expected)?;
+    say(rt, OF)?;
+    print_number(rt, score.compared)?;
+    say(rt, AS_EXPECTED)?;
+    end_line(rt)
 }
 
-fn run(s: &[u8]) {
+fn run(rt: &impl Print, s: &[u8]) -> io::Result<()> {
     let mut table = usual_table();
     let mut earlier = table;
     let mut scene = usual(NOWHERE, 0);
-    let mut recording = io::buffer();
+    let mut recording = [0u8; BUFFER];
     let mut record = first_record(0);
     let mut score = Score {
         compared: 0,
@@ -251,7 +263,7 @@ fn run(s: &[u8]) {
         }
         let line = line_at(s, at);
         let told = told(table, earlier, line, scene, record, s, &recording);
-        score = scored(score, printed(line, told.line, s, at, number));
+        score = scored(score, printed(rt, line, told.line, s, at, number)?);
         earlier = kept(earlier, table, line.form);
         table = told.table;
         record = record_behind(record, scene, line);
@@ -259,11 +271,26 @@ fn run(s: &[u8]) {
         scene.recorded = recorded(&mut recording, scene.recorded, line, s);
         at = forward(line_end(s, at), 1);
     }
-    ended(score);
+    ended(rt, score)
 }
 
-fn main() {
-    let mut text = io::large_buffer();
-    let n = io::read_full(STDIN_FILENO, &mut text);
-    run(&text[..n]);
+// Reads until the buffer is full or the input ends. Answers how many bytes there are.
+fn read_full(input: &mut impl Read, d: &mut [u8]) -> io::Result<usize>
+    ensures { IfOk result (λ n. IsPrefixLen n d.new) }
+{
+    let mut done = 0;
+    while done < d.len() {
+        let n = input.read(&mut d[done..])?;
+        if n == 0 {
+            break;
+        }
+        done += n;
+    }
+    Ok(done)
+}
+
+fn main(rt: HostRuntime) -> io::Result<()> {
+    let mut text = [0u8; 65536];
+    let n = read_full(&mut rt.stdin(), &mut text)?;
+    run(&rt, &text[..n])
 }

@@ -1,9 +1,10 @@
 // Texts in double quotes. In one \r is CR and \n is LF; every other character stands for itself.
-ghost use Rattle.io.specs.Counts.{IsPrefixLen};
+ghost use Rattle.receiving_bench.specs.Counts.{IsPrefixLen};
 
 use crate::lines::octet;
 use crate::numbers::{NOWHERE, Parsed};
 use crate::text::{byte_at, forward, print_part, run_end};
+use std::io;
 
 // How many characters stand between the quotes at most, and the length of a buffer for them.
 pub(crate) const MOST_TEXT: usize = 128;
@@ -73,23 +74,23 @@ pub(crate) fn put_text(s: &[u8], at: usize, d: &mut [u8]) -> usize
 }
 
 // A text, as it stands.
-pub(crate) fn print_quoted(s: &[u8], at: usize) {
-    print_part(s, at, forward(closing(s, at), 1));
+pub(crate) fn print_quoted(rt: &impl Print, s: &[u8], at: usize) -> io::Result<()> {
+    print_part(rt, s, at, forward(closing(s, at), 1))
 }
 
-fn print_character(c: u8) {
+fn print_character(rt: &impl Print, c: u8) -> io::Result<()> {
     match c {
-        b'\r' => print_part(b"\\r", 0, 2),
-        b'\n' => print_part(b"\\n", 0, 2),
-        _ => print_part(&[c], 0, 1),
+        b'\r' => print_part(rt, b"\\r", 0, 2),
+        b'\n' => print_part(rt, b"\\n", 0, 2),
+        _ => print_part(rt, &[c], 0, 1),
     }
 }
 
 // So many bytes, as a text.
-pub(crate) fn print_text(d: &[u8], n: usize) {
-    print_character(b'"');
+pub(crate) fn print_text(rt: &impl Print, d: &[u8], n: usize) -> io::Result<()> {
+    print_character(rt, b'"')?;
     for i in 0..n {
-        print_character(byte_at(d, i));
+        print_character(rt, byte_at(d, i))?;
     }
-    print_character(b'"');
+    print_character(rt, b'"')
 }

@@ -1,6 +1,6 @@
 // The steps that check a settings packet on the table. Each gives the verdict that came and the table afterwards.
 use crate::calls::Told;
-use crate::datagrams::{put_bytes, read_settings};
+use crate::datagrams::{BUFFER, put_bytes, read_settings};
 use crate::forms::{CHECK, CHECK_ITEM, CHECK_OWN, CHECK_OWN_REFUSED, CHECK_REFUSED};
 use crate::lines::{Line, value, value32};
 use crate::looks::choice_at;
@@ -70,7 +70,7 @@ fn check_own(table: Table, reading: Reading, slack: u32) -> SettingsChecked {
 
 // The settings at an index of the scene's datagram.
 fn check_item(table: Table, line: Line, scene: Scene, s: &[u8]) -> SettingsChecked {
-    let mut buffer = io::buffer();
+    let mut buffer = [0u8; BUFFER];
     let n = put_bytes(s, scene.datagram, &mut buffer);
     let found = rtcp::item_at(&buffer[..n], scene.reduced, value(line, 0) as usize);
     check_found(table, found, scene.reading, value32(line, 1))

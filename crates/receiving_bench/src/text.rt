@@ -1,5 +1,5 @@
 // Places in a text, and its lines. A place may lie behind the end, where there is nothing.
-use libc::STDOUT_FILENO;
+use std::io;
 
 // What stands at a place, and 0 past the end.
 pub(crate) fn byte_at(s: &[u8], at: usize) -> u8 {
@@ -41,10 +41,11 @@ pub(crate) fn line_start(s: &[u8], number: usize) -> usize {
     at
 }
 
-pub(crate) fn print_part(s: &[u8], from: usize, to: usize) {
+pub(crate) fn print_part(rt: &impl Print, s: &[u8], from: usize, to: usize) -> io::Result<()> {
     if to <= s.len() {
         if from <= to {
-            io::write_all(STDOUT_FILENO, &s[from..to]);
+            return rt.write_all(&s[from..to]);
         }
     }
+    Ok(())
 }
