@@ -6,8 +6,9 @@ use mathlib.Core.Bool.{Bool, true, false}
 use lib.Dec.{eqb}
 use native.Mathlib.Nat.{add-mod_right, mod-eq_of_lt}
 use native.Mathlib.Omega.{arith}
-use borrow.Author.Tests.{eqb-true, eqb-false, eq-eqb, ne_eqb}
+use borrow.Author.Tests.{eqb-true, eqb-false}
 use Rattle.times.specs.Times.{difference_mod, step, unwrapped, expanded, delay}
+use Rattle.times.proofs.Steps.{step-zero, step_other}
 
 -- ---- ages, of any width: the difference, or what is left of 2^width where it wraps
 
@@ -31,17 +32,6 @@ module _ (width a b : ℕ) where
 -- ---- presentation
 
 module _ (received presented : ℕ) where
-  -- where presented is M, the presentation is one unit after received
-  pub step-zero : step received presented ≡ 0 → received + 1 ≡ unwrapped received presented
-  unfolding unwrapped
-  step-zero z = rw (eq-eqb (step received presented) 0 z) refl
-
-  pub step_other :
-      (step received presented ≡ 0 → ⊥)
-      → received / 2 ^ 16 * 2 ^ 16 + step received presented * 2 ^ 16 ≡ unwrapped received presented
-  unfolding unwrapped
-  step_other h = rw (ne_eqb (step received presented) 0 h) refl
-
   step_bound : step received presented < 2 ^ 32
   unfolding step difference_mod
   step_bound = omega arith
@@ -55,11 +45,11 @@ module _ (received presented : ℕ) where
           (t : Bool) → eqb (step received presented) 0 ≡ t
           → (received + 1 ≤ unwrapped received presented) × (unwrapped received presented ≤ received + 2 ^ 48)
       go true e =
-          let sum : _ = step-zero (eqb-true (step received presented) 0 e) in
+          let sum : _ = step-zero received presented (eqb-true (step received presented) 0 e) in
           (omega (arith, sum), omega (arith, sum))
       go false e =
           let other : _ = eqb-false (step received presented) 0 e in
-          let sum : _ = step_other other in
+          let sum : _ = step_other received presented other in
           (omega (arith, sum, other, step_bound), omega (arith, sum, step_bound))
 
 -- ---- delay and expanded

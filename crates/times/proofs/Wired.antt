@@ -7,7 +7,7 @@ use native.Mathlib.Omega.{arith}
 use borrow.Author.Tests.{eqb-true, eqb-false, eq-eqb, ne_eqb, le-ltb}
 use Rattle.times.specs.Times.{difference_mod, step, unwrapped, expanded, delay, thirty_seconds}
 use Rattle.times.specs.Wired.{SharesSlot, OneUnit, AsBefore, WiredUnits}
-use Rattle.times.proofs.Laws.{step-zero, step_other}
+use Rattle.times.proofs.Steps.{step-zero, step_other}
 
 module _ (received presented : ℕ) (small : received < 2 ^ 64) (short : presented < 2 ^ 32) where
   shared_step : SharesSlot received presented → step received presented ≡ 0

@@ -2,7 +2,7 @@
 use mathlib.Core.Path.{sym, ◌∙◌}
 use native.Mathlib.Omega.{arith}
 use Rattle.times.specs.Times.{step}
-use Rattle.times.proofs.Laws.{step-zero, step_other}
+use Rattle.times.proofs.Steps.{step-zero, step_other}
 use Rattle.times.proofs.unwrapped_presentation.Goals as goal
 
 pub returns-then-step-eq0 : goal.returns-then-step-eq0
