@@ -1,6 +1,6 @@
 -- `check_burst` says how many reports are tried. Each turn leaves the table and the list that the single call with its
 -- report leaves, and after the last turn they are the burst's.
-use Rattle.std.proofs.Common.{◌≡◌, ◌+◌, ◌∙◌, length, set, refl, sym, ap, arith, add-one}
+use Rattle.std.proofs.Common.{◌≡◌, ◌∙◌, length, set, refl, sym, ap, arith, add-one}
 use Rattle.table.specs.declared.Answered.{Answered}
 use Rattle.table.proofs.Laws.Filing.{filing_answers}
 use Rattle.burst.specs.declared.Checked.{Checked}
