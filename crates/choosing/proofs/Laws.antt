@@ -2,5 +2,6 @@ pub mod Marked
 pub mod Counted
 pub mod Latest
 pub mod Candidates
+pub mod LatestStep
 pub mod Biased
 pub mod Verdict

@@ -5,6 +5,7 @@ pub mod Order
 pub mod Unique
 pub mod Tallies
 pub mod Permuted
+pub mod Room
 pub mod Stands
 pub mod Promised
 pub mod ArrivalOrder

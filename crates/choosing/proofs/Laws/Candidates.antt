@@ -19,13 +19,11 @@ use Rattle.register.specs.Choosing.{precedes, target_of}
 use Rattle.choosing.specs.Latest.{latest}
 use Rattle.choosing.specs.declared.Late.{Late}
 use Rattle.choosing.specs.declared.Candidate.{Candidate}
-use Rattle.places.specs.Places.{is_free}
 use Rattle.choosing.specs.Marked.{marked_at, nowhere}
 use Rattle.choosing.specs.Choose.{latest_target}
 use Rattle.choosing.specs.Lateness.{biased, biased_of, biased_late, in_two, late_value}
 use Rattle.choosing.specs.Lateness.{candidate_at, stays_latest, latest_next, latest_target_from, IsLatest}
 use Rattle.choosing.proofs.Laws.Latest.{latest-cons}
-use Rattle.choosing.proofs.Laws.Marked.{marked_free_at, marked_held_at}
 
 -- ---- two words
 
@@ -123,7 +121,7 @@ abbrev pub StandsFor : ℕ → Reading → Rows → Candidate → Type 0
 StandsFor rate at ms a =
     a.place < 64 → a ≡ candidate_at rate at a.place (get_or ms a.place nowhere)
 
-stays_precedes :
+pub stays_precedes :
     (rate : ℕ) (at : Reading) (ms : Rows) (a : Candidate) (i : ℕ) (row : Record) →
     StandsFor rate at ms a →
     stays_latest a (candidate_at rate at i row)
@@ -144,7 +142,7 @@ stays_precedes rate at ms a i row stands = go (ltb a.place 64) refl
     go false e = rw e refl
 
 -- one row more
-latest_target_from_stays :
+pub latest_target_from_stays :
     (late : Record → ℤ) (n : ℕ) (ms : Rows) (place : ℕ) (row : Record) (rows : Rows) →
     (ltb place 64 && precedes late (get_or ms place nowhere) row) ≡ true →
     latest_target_from late n ms place (row ∷ rows) ≡ latest_target_from late n ms place rows
@@ -153,7 +151,7 @@ latest_target_from_stays late n ms place row rows e =
     let both : _ = (and-eq-true_iff (ltb place 64) (precedes late (get_or ms place nowhere) row)).0 e in
     rw (both.0, latest-cons late (get_or ms place nowhere) row rows true both.1) refl
 
-latest_target_from_changes :
+pub latest_target_from_changes :
     (late : Record → ℤ) (n : ℕ) (ms : Rows) (place i : ℕ) (rows : Rows) → i < 64 →
     (ltb place 64 && precedes late (get_or ms place nowhere) (get_or ms i nowhere)) ≡ false →
     latest_target_from late n ms place (get_or ms i nowhere ∷ rows) ≡ latest_target_from late n ms i rows
@@ -184,55 +182,6 @@ pub latest-start :
     {rate : ℕ} {at : Reading} {word : ℕ} {ms : Rows} →
     LatestSoFar rate at word ms (record { place = 64; late = record { whole = 0; part = 0 }; source = 0 }) word 0
 latest-start = record { part = omega arith; stands = λ h. absurd (omega arith); whole = λ n. refl }
-
-pub latest-step :
-    {rate : ℕ} {at : Reading} {word : ℕ} {ms : Rows} {a : Candidate} {rest i : ℕ} {next : Candidate} →
-    i < 64 → i < length ms → LatestSoFar rate at word ms a rest i →
-    next ≡ latest_next rest a (candidate_at rate at i (get_or ms i nowhere)) →
-    LatestSoFar rate at word ms next (rest / 2) (i + 1)
-latest-step {rate} {at} {word} {ms} {a} {rest} {i} {next} below within so e =
-    rw e (go (is_free rest) refl (stays_latest a (candidate_at rate at i (get_or ms i nowhere))) refl)
-  where
-    go :
-        (s : Bool) → is_free rest ≡ s → (t : Bool) → stays_latest a (candidate_at rate at i (get_or ms i nowhere)) ≡ t →
-        LatestSoFar rate at word ms (latest_next rest a (candidate_at rate at i (get_or ms i nowhere))) (rest / 2)
-        (i + 1)
-    go true p t q =
-        rw p
-        (record {
-          part = so.part;
-          stands = so.stands;
-          whole =
-              λ n.
-              sym (ap (latest_target_from (biased_late rate at) n ms a.place) (marked_free_at rest ms i within p))
-              ∙ so.whole n;
-        })
-    go false p true q =
-        let kept : _ = sym (stays_precedes rate at ms a i (get_or ms i nowhere) so.stands) ∙ q in
-        rw (p, q)
-        (record {
-          part = so.part;
-          stands = so.stands;
-          whole =
-              λ n.
-              sym
-              (ap (latest_target_from (biased_late rate at) n ms a.place) (marked_held_at rest ms i within p)
-              ∙ latest_target_from_stays (biased_late rate at) n ms a.place _ _ kept)
-              ∙ so.whole n;
-        })
-    go false p false q =
-        let lost : _ = sym (stays_precedes rate at ms a i (get_or ms i nowhere) so.stands) ∙ q in
-        rw (p, q)
-        (record {
-          part = omega arith;
-          stands = λ h. refl;
-          whole =
-              λ n.
-              sym
-              (ap (latest_target_from (biased_late rate at) n ms a.place) (marked_held_at rest ms i within p)
-              ∙ latest_target_from_changes (biased_late rate at) n ms a.place i _ below lost)
-              ∙ so.whole n;
-        })
 
 pub latest_end :
     {rate : ℕ} {at : Reading} {word : ℕ} {ms : Rows} {a : Candidate} {rest i : ℕ} → length ms ≤ i →

@@ -5,7 +5,8 @@ use native.Mathlib.Omega.{arith}
 use Rattle.register.specs.Tallies.{records_of}
 use Rattle.register.proofs.Tallies.{length-rows}
 use Rattle.choosing.proofs.Laws.Marked.{row_at}
-use Rattle.choosing.proofs.Laws.Candidates.{latest-start, latest-step, latest_end}
+use Rattle.choosing.proofs.Laws.Candidates.{latest-start, latest_end}
+use Rattle.choosing.proofs.Laws.LatestStep.{latest-step}
 use Rattle.choosing.proofs.latest_place.Goals as goal
 
 pub loop-i-init : goal.loop-i-init
