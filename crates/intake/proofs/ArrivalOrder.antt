@@ -12,7 +12,6 @@ use Rattle.register.specs.Register.{Call}
 use Rattle.table.specs.declared.Table.{Table}
 use Rattle.table.specs.ArrivalOrder.{CallResult}
 use Rattle.table.proofs.ArrivalOrder.{reached_agreement, Brings, results_in_either_order}
-use Rattle.intake.specs.declared.DatagramAnswered.{DatagramAnswered}
 use Rattle.intake.specs.Datagrams.{answered_unless, numbers_unless, datagram_answered, answers_after}
 use Rattle.intake.specs.ArrivalOrder.{Incoming, incoming_calls, datagram_result, EveryTwoDatagrams}
 

@@ -27,7 +27,6 @@ use Rattle.rtcp.specs.Answers.{cursor_on}
 use Rattle.rtcp.proofs.Theorems.{cursor-in_turn}
 use Rattle.table.specs.declared.Table.{Table}
 use Rattle.table.specs.declared.Taken.{Taken}
-use Rattle.table.specs.Calls.{answered}
 use Rattle.table.specs.Intake.{taken}
 use Rattle.table.specs.History.{answers_from, table_from}
 use Rattle.intake.specs.declared.DatagramAnswered.{DatagramAnswered}

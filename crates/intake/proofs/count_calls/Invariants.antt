@@ -1,10 +1,8 @@
 -- The calls so far and those of what the cursor still gives are those of all. The measure is how often it may be asked.
 use Prim.Native.Nat.{◌+◌, ◌≤◌}
-use mathlib.Core.Path.{◌≡◌, sym, ap, ◌∙◌}
-use native.Mathlib.Omega.{arith}
+use mathlib.Core.Path.{◌≡◌}
 use Rattle.rtcp.specs.Cursor.{given}
 use Rattle.intake.specs.Steps.{call_count}
-use Rattle.intake.proofs.Laws.{given-item, given_end, given-none, count_front, count_none}
 use Rattle.intake.proofs.count_calls.Given as goal
 
 abbrev pub invariant-loop-left : goal.invariant-loop-left

@@ -1,10 +1,8 @@
 -- One item after the other; `CallsLeft` says which calls are left. The measure is how often the cursor may be asked.
 use mathlib.Core.Path.{sym, ◌∙◌}
 use native.Mathlib.Omega.{arith}
-use Rattle.rtcp.specs.Cursor.{given}
-use Rattle.intake.specs.Datagrams.{calls_in}
 use Rattle.intake.proofs.Laws.{given_end, given-none, calls_item, calls_none}
-use Rattle.intake.proofs.Laws.{CallsLeft, calls_left_start, calls_left_room, calls_left_item, calls_left_end}
+use Rattle.intake.proofs.Laws.{calls_left_start, calls_left_room, calls_left_item, calls_left_end}
 use Rattle.intake.proofs.make_calls.Goals as goal
 
 pub loop-left-init : goal.loop-left-init

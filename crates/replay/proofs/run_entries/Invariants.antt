@@ -1,16 +1,8 @@
 -- One item after the other, and one entry after the other: `Running` says what is left. The measure counts the entries
 -- left, each as more than a datagram has items, and the items left.
-use Prim.Native.Nat.{◌+◌, ◌-◌, ◌*◌, ◌<◌}
-use mathlib.Core.Path.{refl, sym, ap, ◌∙◌}
-use native.Mathlib.Omega.{arith}
-use Rattle.table.specs.declared.Chosen.{Chosen}
+use Prim.Native.Nat.{◌+◌, ◌-◌, ◌*◌}
 use Rattle.replay.specs.Steps.{cursor_behind}
-use Rattle.replay.proofs.Laws.Layout.{good_layout}
-use Rattle.replay.proofs.Laws.Entries.{begins_few}
-use Rattle.replay.proofs.Laws.Running.{listed_at_lem, not_last, bodies_whole, listed_inside}
-use Rattle.replay.proofs.Laws.Running.{Running, running_inside, running_start, some_left, report_within}
-use Rattle.replay.proofs.Laws.Running.{running_report, farewell_within, running_farewell, running_settings}
-use Rattle.replay.proofs.Laws.Running.{running_next, running_end}
+use Rattle.replay.proofs.Laws.Running.{Running}
 use Rattle.replay.proofs.run_entries.Given as goal
 
 abbrev pub invariant-loop-step : goal.invariant-loop-step

@@ -1,12 +1,8 @@
 -- The bytes before i are pasted. The measure is how many are left.
-use Prim.Native.Nat.{ℕ, ◌+◌, ◌-◌, ◌≤◌, ◌<◌}
-use mathlib.Core.List.{List}
-use mathlib.Core.Path.{◌≡◌, refl, sym, ap, ◌∙◌}
-use lib.ListN.{length, get_or, set, drop, replicate, length-set, length-drop}
-use lib.Seq.{paste, paste-zero, paste-suc, get_or-drop}
-use native.Mathlib.Numerals.{add-one}
-use native.Mathlib.Omega.{arith}
-use Rattle.replay.proofs.Laws.Layout.{paste_all}
+use Prim.Native.Nat.{◌-◌, ◌≤◌}
+use mathlib.Core.Path.{◌≡◌}
+use lib.ListN.{length, drop, replicate}
+use lib.Seq.{paste}
 use Rattle.replay.proofs.layout.address_at.Given as goal
 
 abbrev pub invariant-loop-i : goal.invariant-loop-i

@@ -1,9 +1,7 @@
 -- The end after i bodies, with what is left to add. The measure is how many are left.
-use Prim.Native.Nat.{ℕ, ◌+◌, ◌-◌, ◌*◌, ◌≤◌, ◌<◌}
-use mathlib.Core.Path.{◌≡◌, sym, ap, ◌∙◌}
-use native.Mathlib.Omega.{arith}
-use Rattle.replay.specs.Recording.{entry_place, body_length, bodies_end}
-use Rattle.replay.proofs.Laws.Layout.{bodies_none, bodies_next}
+use Prim.Native.Nat.{◌+◌, ◌-◌, ◌*◌, ◌≤◌}
+use mathlib.Core.Path.{◌≡◌}
+use Rattle.replay.specs.Recording.{entry_place, bodies_end}
 use Rattle.replay.proofs.layout.bodies_end.Given as goal
 
 abbrev pub invariant-loop-i : goal.invariant-loop-i
