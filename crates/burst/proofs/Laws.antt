@@ -104,16 +104,16 @@ module _ (at : Reading) where
 -- ---- the burst
 
 -- a list is long enough where the burst is taken
-list_enough : (reports listLength : ℕ) → burst_checks reports listLength ≡ 0 → reports ≤ listLength
+list_enough : (reports list_length : ℕ) → burst_checks reports list_length ≡ 0 → reports ≤ list_length
 unfolding burst_checks
-list_enough reports listLength e = go (ltb burst_limit reports) refl (ltb listLength reports) refl
+list_enough reports list_length e = go (ltb burst_limit reports) refl (ltb list_length reports) refl
   where
-    go : (p : Bool) → ltb burst_limit reports ≡ p → (q : Bool) → ltb listLength reports ≡ q → reports ≤ listLength
-    go true h q k = let wrong : burst_checks reports listLength ≡ long_burst = rw h refl in omega (arith, wrong, e)
+    go : (p : Bool) → ltb burst_limit reports ≡ p → (q : Bool) → ltb list_length reports ≡ q → reports ≤ list_length
+    go true h q k = let wrong : burst_checks reports list_length ≡ long_burst = rw h refl in omega (arith, wrong, e)
     go false h true k =
-        let wrong : burst_checks reports listLength ≡ short_answers = rw (h, k) refl in
+        let wrong : burst_checks reports list_length ≡ short_answers = rw (h, k) refl in
         omega (arith, wrong, e)
-    go false h false k = ltb-false listLength reports k
+    go false h false k = ltb-false list_length reports k
 
 -- how many reports are tried
 abbrev pub tried_of : List Record → List ℕ → ℕ

@@ -25,14 +25,14 @@ burst_limit = 64
 
 -- the first check that applies, or 0, for so many reports and a lent list of such a length
 unfoldable pub burst_checks : ℕ → ℕ → ℕ
-burst_checks reports listLength = cond (ltb burst_limit reports) long_burst (cond (ltb listLength reports) short_answers 0)
+burst_checks reports list_length = cond (ltb burst_limit reports) long_burst (cond (ltb list_length reports) short_answers 0)
 
 -- and how many reports are tried: all of them, or none
 abbrev pub burst_checked : ℕ → ℕ → Checked
-burst_checked reports listLength =
+burst_checked reports list_length =
     record {
-      number = burst_checks reports listLength;
-      tried = cond (eqb (burst_checks reports listLength) 0) reports 0;
+      number = burst_checks reports list_length;
+      tried = cond (eqb (burst_checks reports list_length) 0) reports 0;
     }
 
 -- ---- the burst

@@ -1,5 +1,5 @@
 // Every function that C and Rust call, under the names of include/prunepocket.h. Each is thin: it calls a proved
-// function of a crate below and hands its answer on as plain numbers.
+// function of a crate below and hands its answer on as plain numbers. `prunepocket_c` exports them.
 #![tactic(auto)]
 
 mod loudspeaker;
@@ -19,8 +19,16 @@ ghost use Rattle.prunepocket.specs.Answers.{field_answer, field_after};
 
 use buffer::Written;
 use idms::{Field, Found, Refusal, Report, Settings};
+pub use loudspeaker::{prunepocket_set_target, prunepocket_target_lateness, prunepocket_tick};
+pub use members::{
+    Followed, SettingsAnswered, prunepocket_check_settings, prunepocket_choose,
+    prunepocket_count_members, prunepocket_farewell, prunepocket_member_at, prunepocket_open,
+    prunepocket_report, prunepocket_report_burst, prunepocket_sweep, prunepocket_take_datagram,
+};
+pub use recordings::{RecordingAnswered, prunepocket_replay};
 use refusals::{NO_SUCH_ITEM, OUT_OF_RANGE};
 use rtcp::Count;
+pub use site_file::{prunepocket_read_sync_group, prunepocket_write_sync_group};
 
 // A refusal's number and place, or 0 and 0 where there was none.
 #[repr(C)]
@@ -59,12 +67,7 @@ pub(crate) fn is_agreed(number: u32) -> bool
 }
 
 // Puts how many items a datagram has into `count`, which a refusal leaves as it was.
-#[unsafe(no_mangle)]
-pub extern "C" fn prunepocket_count_items(
-    datagram: &[u8],
-    reduced_size: u32,
-    count: &mut u64,
-) -> Answer
+pub fn prunepocket_count_items(datagram: &[u8], reduced_size: u32, count: &mut u64) -> Answer
     ensures { (result ≡ count_answer (item_count (agreed reduced_size) datagram.now))
         × (count.new
         ≡ count_after (item_count (agreed reduced_size) datagram.now) count.old) }
@@ -80,8 +83,7 @@ pub extern "C" fn prunepocket_count_items(
 
 // Puts one field of the item at an index into `value`, which a refusal leaves as it was. A field that the item does not
 // have gets 9, as an index without an item does.
-#[unsafe(no_mangle)]
-pub extern "C" fn prunepocket_item_field(
+pub fn prunepocket_item_field(
     datagram: &[u8],
     reduced_size: u32,
     index: u64,
@@ -109,8 +111,7 @@ pub extern "C" fn prunepocket_item_field(
 
 // Puts all items into `rows`, ten numbers each, and how many there are into `count`. A refusal leaves both as they
 // were.
-#[unsafe(no_mangle)]
-pub extern "C" fn prunepocket_read_items(
+pub fn prunepocket_read_items(
     datagram: &[u8],
     reduced_size: u32,
     rows: &mut [u64],
@@ -153,8 +154,7 @@ pub(crate) fn bytes_written(w: Written, before: u64) -> u64
 
 // Writes a report to the front of `bytes` and puts how many bytes it took into `written`. P is 0 or 1. A refusal leaves
 // both as they were.
-#[unsafe(no_mangle)]
-pub extern "C" fn prunepocket_write_report(
+pub fn prunepocket_write_report(
     sender: u32,
     payload_type: u32,
     p: u32,
@@ -199,8 +199,7 @@ pub extern "C" fn prunepocket_write_report(
 
 // Writes settings to the front of `bytes` and puts how many bytes they took into `written`. A refusal leaves both as
 // they were.
-#[unsafe(no_mangle)]
-pub extern "C" fn prunepocket_write_settings(
+pub fn prunepocket_write_settings(
     sender: u32,
     group: u32,
     media: u32,

@@ -9,8 +9,7 @@ use register::Reading;
 use settings_target::{LatenessAnswered, target_lateness};
 
 // How late a settings packet asks a loudspeaker to play, at its own reading.
-#[unsafe(no_mangle)]
-pub extern "C" fn prunepocket_target_lateness(
+pub fn prunepocket_target_lateness(
     group: u32,
     media: u32,
     rate: u32,
@@ -23,8 +22,7 @@ pub extern "C" fn prunepocket_target_lateness(
 }
 
 // Writes the clock's target; or 26 or 27, and the record stays as it was.
-#[unsafe(no_mangle)]
-pub extern "C" fn prunepocket_set_target(clock: &mut PlayoutClock, target: i64) -> u64
+pub fn prunepocket_set_target(clock: &mut PlayoutClock, target: i64) -> u64
     ensures { (result ≡ clock_answer clock.old (ClockCall.set target))
         × (clock.new ≡ clock_after clock.old (ClockCall.set target)) }
 {
@@ -34,8 +32,7 @@ pub extern "C" fn prunepocket_set_target(clock: &mut PlayoutClock, target: i64) 
 }
 
 // Moves the clock's current towards its target; or 26 or 27, and the record stays as it was.
-#[unsafe(no_mangle)]
-pub extern "C" fn prunepocket_tick(clock: &mut PlayoutClock) -> u64
+pub fn prunepocket_tick(clock: &mut PlayoutClock) -> u64
     ensures { (result ≡ clock_answer clock.old ClockCall.tick)
         × (clock.new ≡ clock_after clock.old ClockCall.tick) }
 {

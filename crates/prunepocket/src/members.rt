@@ -39,24 +39,21 @@ pub struct SettingsAnswered {
 }
 
 // A table for a group, a media source and a clock rate, or 12.
-#[unsafe(no_mangle)]
-pub extern "C" fn prunepocket_open(group: u32, media: u32, rate: u32) -> Answered
+pub fn prunepocket_open(group: u32, media: u32, rate: u32) -> Answered
     ensures { result ≡ opened (record { group = group; media = media; rate = rate }) }
 {
     Table::open(group, media, rate)
 }
 
 // A report under its origin, at the sender's reading.
-#[unsafe(no_mangle)]
-pub extern "C" fn prunepocket_report(t: Table, x: Record, at: Reading) -> Answered
+pub fn prunepocket_report(t: Table, x: Record, at: Reading) -> Answered
     ensures { result ≡ answered t (Call.report x at) }
 {
     t.report(x, at)
 }
 
 // Every report of a burst, in order, at one reading, each with its number in the list; or 23 or 24, and none is tried.
-#[unsafe(no_mangle)]
-pub extern "C" fn prunepocket_report_burst(
+pub fn prunepocket_report_burst(
     mut t: Table,
     reports: &[Record],
     at: Reading,
@@ -82,24 +79,21 @@ pub extern "C" fn prunepocket_report_burst(
 }
 
 // A farewell, which is a BYE source, under its origin.
-#[unsafe(no_mangle)]
-pub extern "C" fn prunepocket_farewell(t: Table, source: u32, origin: Origin) -> Answered
+pub fn prunepocket_farewell(t: Table, source: u32, origin: Origin) -> Answered
     ensures { result ≡ answered t (Call.farewell source origin) }
 {
     t.farewell(source, origin)
 }
 
 // Removes every member that is not fresh at the reading.
-#[unsafe(no_mangle)]
-pub extern "C" fn prunepocket_sweep(t: Table, at: Reading) -> Answered
+pub fn prunepocket_sweep(t: Table, at: Reading) -> Answered
     ensures { result ≡ answered t (Call.sweep at) }
 {
     t.sweep(at)
 }
 
 // Every report and farewell of a datagram, in order, each with its number in the list.
-#[unsafe(no_mangle)]
-pub extern "C" fn prunepocket_take_datagram(
+pub fn prunepocket_take_datagram(
     t: Table,
     datagram: &[u8],
     reduced_size: u32,
@@ -116,16 +110,14 @@ pub extern "C" fn prunepocket_take_datagram(
 }
 
 // How many members there are.
-#[unsafe(no_mangle)]
-pub extern "C" fn prunepocket_count_members(t: Table) -> u32
+pub fn prunepocket_count_members(t: Table) -> u32
     ensures { result ≡ member_count t }
 {
     t.count_members()
 }
 
 // The member at a place, if there is one.
-#[unsafe(no_mangle)]
-pub extern "C" fn prunepocket_member_at(t: Table, place: usize) -> Place
+pub fn prunepocket_member_at(t: Table, place: usize) -> Place
     ensures { result ≡ place_at t place }
 {
     t.member_at(place)
@@ -165,8 +157,7 @@ fn followed_by(choice: Choice, t: Table) -> Followed
 }
 
 // The target at the reading, or 20.
-#[unsafe(no_mangle)]
-pub extern "C" fn prunepocket_choose(t: Table, at: Reading) -> Followed
+pub fn prunepocket_choose(t: Table, at: Reading) -> Followed
     ensures { result ≡ followed_of (choice_of t at) t }
 {
     let chosen = t.choose(at);
@@ -199,8 +190,7 @@ fn answered_by(verdict: Verdict, t: Table) -> SettingsAnswered
 }
 
 // Whether a settings packet suits the members at the reading, or 11, 20, 13, 15, 16 or 17.
-#[unsafe(no_mangle)]
-pub extern "C" fn prunepocket_check_settings(
+pub fn prunepocket_check_settings(
     t: Table,
     s: Settings,
     at: Reading,

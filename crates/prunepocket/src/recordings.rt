@@ -61,8 +61,7 @@ fn answer_replay(r: Replayed) -> RecordingAnswered
 
 // Runs a recording through a table that is opened for its head, with a row of three numbers for each entry, and chooses
 // at the last one's reading.
-#[unsafe(no_mangle)]
-pub extern "C" fn prunepocket_replay(recording: &[u8], rows: &mut [u64]) -> RecordingAnswered
+pub fn prunepocket_replay(recording: &[u8], rows: &mut [u64]) -> RecordingAnswered
     ensures { (result ≡ recording_answered (replayed recording.now rows.old))
         × (rows.new ≡ replayed_rows recording.now rows.old) }
 {

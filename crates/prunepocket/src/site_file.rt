@@ -9,8 +9,7 @@ use crate::{Answer, accept, answer_write, bytes_written};
 use sdp::SyncGroup;
 
 // Puts the group number of a line into `group`, which a refusal leaves as it was.
-#[unsafe(no_mangle)]
-pub extern "C" fn prunepocket_read_sync_group(line: &[u8], group: &mut u32) -> Answer
+pub fn prunepocket_read_sync_group(line: &[u8], group: &mut u32) -> Answer
     ensures { (result ≡ group_answer (group_in line.now))
         × (group.new ≡ group_after (group_in line.now) group.old) }
 {
@@ -25,12 +24,7 @@ pub extern "C" fn prunepocket_read_sync_group(line: &[u8], group: &mut u32) -> A
 
 // Writes the line of a group number to the front of `bytes` and puts how many bytes it took into `written`. A refusal
 // leaves both as they were.
-#[unsafe(no_mangle)]
-pub extern "C" fn prunepocket_write_sync_group(
-    group: u32,
-    bytes: &mut [u8],
-    written: &mut u64,
-) -> Answer
+pub fn prunepocket_write_sync_group(group: u32, bytes: &mut [u8], written: &mut u64) -> Answer
     ensures { Wrote (group_message group)
         bytes.old written.old result bytes.new written.new }
 {

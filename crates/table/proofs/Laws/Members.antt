@@ -109,8 +109,8 @@ marked_own word place ms d held h below =
 -- ---- a number's place
 
 -- what the place of a number is: behind the last where no row has the number, and else held by a member with it
-abbrev pub Found_at : ℕ → ℕ → Rows → ℕ → Type 0
-Found_at source word ms place =
+abbrev pub FoundAt : ℕ → ℕ → Rows → ℕ → Type 0
+FoundAt source word ms place =
     (place ≤ length ms)
     × (place < length ms → (is_held place word ≡ true) × (has_number source (get_or ms place nowhere) ≡ true))
     × (length ms ≤ place → any (has_number source) (marked_at word ms) ≡ false)
@@ -118,7 +118,7 @@ Found_at source word ms place =
 found_on :
     (source word place : ℕ) (m : Record) (ms : Rows) →
     any (has_number source) (marked_at word (m ∷ ms)) ≡ any (has_number source) (marked_at (word / 2) ms) →
-    Found_at source (word / 2) ms place → Found_at source word (m ∷ ms) (1 + place)
+    FoundAt source (word / 2) ms place → FoundAt source word (m ∷ ms) (1 + place)
 found_on source word place m ms same rest =
     let next : 1 + place ≡ suc place = omega arith in
     rw (next, held_next place word)
@@ -126,8 +126,8 @@ found_on source word place m ms same rest =
 
 place-step :
     (source word : ℕ) (m : Record) (ms : Rows) → (s t : Bool) → is_free word ≡ s → has_number source m ≡ t →
-    Found_at source (word / 2) ms (place_of source (word / 2) ms) →
-    Found_at source word (m ∷ ms) (cond (not s && t) 0 (1 + place_of source (word / 2) ms))
+    FoundAt source (word / 2) ms (place_of source (word / 2) ms) →
+    FoundAt source word (m ∷ ms) (cond (not s && t) 0 (1 + place_of source (word / 2) ms))
 unfolding any
 place-step source word m ms true t e f rest =
     found_on source word (place_of source (word / 2) ms) m ms (ap (any (has_number source)) (marked_free word m ms e))
@@ -140,7 +140,7 @@ place-step source word m ms false false e f rest =
     ∙ ap (λ (b : Bool). b || any (has_number source) (marked_at (word / 2) ms)) f)
     rest
 
-pub place_found : (source word : ℕ) (ms : Rows) → Found_at source word ms (place_of source word ms)
+pub place_found : (source word : ℕ) (ms : Rows) → FoundAt source word ms (place_of source word ms)
 unfolding place_of any marked_at
 place_found source word [] = (omega arith, (λ h. absurd (omega arith)), (λ h. refl))
 place_found source word (m ∷ ms) =

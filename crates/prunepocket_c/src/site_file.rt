@@ -1,0 +1,31 @@
+// The line of a site file that carries the group number.
+ghost use Rattle.std.specs.Prelude.{◌≡◌};
+ghost use Rattle.sdp.specs.Line.{group_message};
+ghost use Rattle.sdp.specs.Answers.{group_in};
+ghost use Rattle.prunepocket.specs.Messages.{Wrote};
+ghost use Rattle.prunepocket.specs.SiteFile.{group_answer, group_after};
+
+use prunepocket::Answer;
+
+// Puts the group number of a line into `group`, which a refusal leaves as it was.
+#[unsafe(no_mangle)]
+pub extern "C" fn prunepocket_read_sync_group(line: &[u8], group: &mut u32) -> Answer
+    ensures { (result ≡ group_answer (group_in line.now))
+        × (group.new ≡ group_after (group_in line.now) group.old) }
+{
+    prunepocket::prunepocket_read_sync_group(line, group)
+}
+
+// Writes the line of a group number to the front of `bytes` and puts how many bytes it took into `written`. A refusal
+// leaves both as they were.
+#[unsafe(no_mangle)]
+pub extern "C" fn prunepocket_write_sync_group(
+    group: u32,
+    bytes: &mut [u8],
+    written: &mut u64,
+) -> Answer
+    ensures { Wrote (group_message group)
+        bytes.old written.old result bytes.new written.new }
+{
+    prunepocket::prunepocket_write_sync_group(group, bytes, written)
+}
