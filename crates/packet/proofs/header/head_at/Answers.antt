@@ -15,25 +15,25 @@ returns-then-saturating_sub-lt4 c =
 pub returns-then-d-p-ne2 : goal.returns-then-d-p-ne2
 returns-then-d-p-ne2 c =
     let a = c.args in
-    sym (head_is_version a.reduced a.d.now a.p c.if-d-p-ne2.true)
+    sym (head_is_version a.reduced a.d.now a.p (omega arith))
 
 pub returns-then-d-p : goal.returns-then-d-p
 returns-then-d-p c =
     let a = c.args in
-    sym (head_is_long a.reduced a.d.now a.p c.if-d-p-ne2.false (omega (arith, c.packet_size-bytes.ensures.0)))
+    sym (head_is_long a.reduced a.d.now a.p (omega arith) (omega (arith, c.packet_size-bytes.ensures.0)))
 
 pub returns-then-padding : goal.returns-then-padding
 returns-then-padding c =
     let a = c.args in
     sym
-    (head_is_padding a.reduced a.d.now a.p c.if-d-p-ne2.false (omega (arith, c.packet_size-bytes.ensures.0))
+    (head_is_padding a.reduced a.d.now a.p (omega arith) (omega (arith, c.packet_size-bytes.ensures.0))
     (sym c.is_badly_padded-padding.ensures ∙ c.if-padding.true))
 
 pub returns-then-first : goal.returns-then-first
 returns-then-first c =
     let a = c.args in
     sym
-    (head_is_first a.reduced a.d.now a.p c.if-d-p-ne2.false (omega (arith, c.packet_size-bytes.ensures.0))
+    (head_is_first a.reduced a.d.now a.p (omega arith) (omega (arith, c.packet_size-bytes.ensures.0))
     (sym c.is_badly_padded-padding.ensures ∙ c.if-padding.false)
     (sym c.is_bad_first-first.ensures ∙ c.if-first.true))
 
@@ -41,7 +41,7 @@ pub returns-then-is_short : goal.returns-then-is_short
 returns-then-is_short c =
     let a = c.args in
     sym
-    (head_is_short a.reduced a.d.now a.p c.if-d-p-ne2.false (omega (arith, c.packet_size-bytes.ensures.0))
+    (head_is_short a.reduced a.d.now a.p (omega arith) (omega (arith, c.packet_size-bytes.ensures.0))
     (sym c.is_badly_padded-padding.ensures ∙ c.if-padding.false)
     (sym c.is_bad_first-first.ensures ∙ c.if-first.false)
     (sym (ap (λ (x : Head). content_is_short x.kind x.content) c.known_head-h.ensures)
@@ -53,7 +53,7 @@ returns c =
     let a = c.args in
     ap PacketHead.Head c.known_head-h.ensures
     ∙ sym
-    (head_is_head a.reduced a.d.now a.p c.if-d-p-ne2.false (omega (arith, c.packet_size-bytes.ensures.0))
+    (head_is_head a.reduced a.d.now a.p (omega arith) (omega (arith, c.packet_size-bytes.ensures.0))
     (sym c.is_badly_padded-padding.ensures ∙ c.if-padding.false)
     (sym c.is_bad_first-first.ensures ∙ c.if-first.false)
     (sym (ap (λ (x : Head). content_is_short x.kind x.content) c.known_head-h.ensures)
