@@ -1,9 +1,2 @@
-// What every writer answers. What it leaves in the lent buffer is defined in specs/Buffer.antt.
+// What every writer answers and leaves in the lent buffer: specs/Buffer.antt. There is no code here.
 #![tactic(auto)]
-
-// How many bytes were written, or the number of the refusal.
-#[derive(Clone, Copy)]
-pub enum Written {
-    Bytes(usize),
-    Refused(u64),
-}

@@ -14,7 +14,7 @@ use Rattle.table.specs.History.{answers_from, table_from}
 use Rattle.table.specs.ArrivalOrder.{AlikeButPlaces}
 use Rattle.table.proofs.ArrivalOrder.{reached_agreement, two_sources, alike_same, Brings, results_in_either_order}
 use Rattle.table.proofs.ArrivalOrder.{exchanged_between}
-use Rattle.burst.specs.Burst.{report_calls, burst_checks, burst_answered, burst_answers_after}
+use Rattle.burst.specs.Burst.{report_calls, burst_number, burst_answered, burst_answers_after}
 use Rattle.burst.specs.ArrivalOrder.{burst_result, EveryTwoInBurst, EveryTwoBursts}
 use Rattle.burst.proofs.Laws.{length-report_calls}
 
@@ -25,10 +25,10 @@ burst_brings :
 unfolding burst_answered burst_answers_after
 burst_brings reports at lent =
     record {
-      made = eqb (burst_checks (length reports) (length lent)) 0;
+      made = eqb (burst_number (length reports) (length lent)) 0;
       show = λ numbers. (
-        burst_checks (length reports) (length lent),
-        cond (eqb (burst_checks (length reports) (length lent)) 0)
+        burst_number (length reports) (length lent),
+        cond (eqb (burst_number (length reports) (length lent)) 0)
             (numbers ++ drop (length (report_calls at reports)) lent)
             lent,
       );
@@ -61,7 +61,7 @@ alike_bursts :
 unfolding burst_answered burst_answers_after
 alike_bursts t reports others at lent long numbers alike =
     rw (length-report_calls at reports, length-report_calls at others, long, numbers)
-    (refl, go (eqb (burst_checks (length others) (length lent)) 0))
+    (refl, go (eqb (burst_number (length others) (length lent)) 0))
   where
     go :
         (b : Bool) →

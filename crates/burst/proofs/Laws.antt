@@ -1,15 +1,18 @@
 -- Laws of a burst, report by report: what the loop over the lent records has after n of them, and that it ends with
 -- what the definitions say.
-use Prim.Native.Nat.{ℕ, zero, suc, ◌≤◌, zero-le}
+use Prim.Native.Nat.{ℕ, zero, suc, ◌≤◌}
 use mathlib.Core.Bool.{Bool, true, false}
 use mathlib.Core.List.{List, [], ◌∷◌}
-use mathlib.Core.Path.{◌≡◌, refl, ap, ◌∙◌}
-use lib.Dec.{eqb, ltb}
+use mathlib.Core.Path.{◌≡◌, refl, sym, ap, subst, ◌∙◌}
+use lib.Dec.{ltb}
 use lib.ListN.{length, set, length-set}
-use native.Mathlib.Nat.{le_refl, not-suc-le-zero, le_of_suc-le-suc}
-use native.Mathlib.Omega.{arith}
-use borrow.Author.Tests.{eqb-true, ltb-false}
-use Rattle.refusals.specs.Refusals.{long_burst, short_answers}
+use native.Mathlib.Nat.{not-suc-le-zero, le_of_suc-le-suc}
+use borrow.Author.Tests.{ltb-false, ne_eqb}
+use Rattle.std.specs.Prelude.{Result, Ok, Err}
+use Rattle.std.specs.Result.{result_and}
+use Rattle.refusals.specs.declared.RefusalNumber.{RefusalNumber}
+use Rattle.refusals.specs.Refusals.{refusal_number}
+use Rattle.refusals.proofs.Laws.{number_positive}
 use Rattle.register.specs.declared.Record.{Record}
 use Rattle.register.specs.declared.Reading.{Reading}
 use Rattle.register.specs.Register.{Call}
@@ -104,56 +107,62 @@ module _ (at : Reading) where
 -- ---- the burst
 
 -- a list is long enough where the burst is taken
-list_enough : (reports list_length : ℕ) → burst_checks reports list_length ≡ 0 → reports ≤ list_length
+list_enough : (reports list_length : ℕ) → burst_checks reports list_length ≡ Ok tt → reports ≤ list_length
 unfolding burst_checks
 list_enough reports list_length e = go (ltb burst_limit reports) refl (ltb list_length reports) refl
   where
     go : (p : Bool) → ltb burst_limit reports ≡ p → (q : Bool) → ltb list_length reports ≡ q → reports ≤ list_length
-    go true h q k = let wrong : burst_checks reports list_length ≡ long_burst = rw h refl in omega (arith, wrong, e)
+    go true h q k = let wrong : burst_checks reports list_length ≡ Err RefusalNumber.LongBurst = rw h refl in absurd (cc)
     go false h true k =
-        let wrong : burst_checks reports list_length ≡ short_answers = rw (h, k) refl in
-        omega (arith, wrong, e)
+        let wrong : burst_checks reports list_length ≡ Err RefusalNumber.ShortAnswers = rw (h, k) refl in
+        absurd (cc)
     go false h false k = ltb-false list_length reports k
 
--- how many reports are tried
-abbrev pub tried_of : List Record → List ℕ → ℕ
-tried_of reports lent = (burst_checked (length reports) (length lent)).tried
+-- what a burst that is taken or refused says of its checks
+taken_by :
+    (r : Result Unit RefusalNumber) (reports tried : ℕ) → Ok tried ≡ result_and r (Ok reports) →
+    (r ≡ Ok tt) × (tried ≡ reports)
+taken_by (Ok passed) reports tried e = (refl, cc)
+taken_by (Err refused) reports tried e = absurd (cc)
 
--- no more than there are, nor than the list is long
-pub tried_most :
-    (reports : List Record) (lent : List ℕ) →
-    (tried_of reports lent ≤ length reports) × (tried_of reports lent ≤ length lent)
-tried_most reports lent = go (eqb (burst_checks (length reports) (length lent)) 0) refl
-  where
-    go :
-        (p : Bool) → eqb (burst_checks (length reports) (length lent)) 0 ≡ p →
-        (tried_of reports lent ≤ length reports) × (tried_of reports lent ≤ length lent)
-    go true e =
-        let none : burst_checks (length reports) (length lent) ≡ 0 = eqb-true _ 0 e in
-        rw e (le_refl (length reports), list_enough (length reports) (length lent) none)
-    go false e = rw e (zero-le, zero-le)
+refused_by :
+    (r : Result Unit RefusalNumber) (reports : ℕ) (refused : RefusalNumber) → Err refused ≡ result_and r (Ok reports) →
+    r ≡ Err refused
+refused_by (Ok passed) reports refused e = absurd (cc)
+refused_by (Err number) reports refused e = let same : number ≡ refused = cc in ap Err same
 
--- what the loop leaves after the reports that are tried
-module _ (t : Table) (reports : List Record) (at : Reading) (lent : List ℕ) where
-  abbrev number : ℕ
-  number = burst_checks (length reports) (length lent)
+module _ (reports : List Record) (lent : List ℕ) where
+  -- as many are tried as there are, and the list is no shorter
+  pub tried_all :
+      (tried : ℕ) → Ok tried ≡ burst_checked (length reports) (length lent) →
+      (tried ≡ length reports) × (tried ≤ length lent)
+  tried_all tried e =
+      let both = taken_by (burst_checks (length reports) (length lent)) (length reports) tried e in
+      (both.1, subst (λ (n : ℕ). n ≤ length lent) (sym both.1) (list_enough (length reports) (length lent) both.0))
 
-  abbrev Ends : Type 0
-  Ends =
-      (◌≡◌ {A = Answered} (record { number = number; table = after_singles t reports at (tried_of reports lent) })
-      (burst_answered t reports at lent))
-      × (list_after t reports at lent (tried_of reports lent) ≡ burst_answers_after t reports at lent)
+  module _ (t : Table) (at : Reading) where
+    -- taken, what the loop leaves after all of them
+    pub burst-taken :
+        (tried : ℕ) → Ok tried ≡ burst_checked (length reports) (length lent) →
+        (◌≡◌ {A = Answered} (record { number = 0; table = after_singles t reports at tried })
+        (burst_answered t reports at lent))
+        × (list_after t reports at lent tried ≡ burst_answers_after t reports at lent)
+    unfolding burst_answered burst_answers_after
+    burst-taken tried e =
+        let both = taken_by (burst_checks (length reports) (length lent)) (length reports) tried e in
+        let enough : length reports ≤ length lent = list_enough (length reports) (length lent) both.0 in
+        rw (both.1, both.0) (
+          ap (λ (u : Table). record { number = 0; table = u }) (table-all at t reports),
+          list_all at t reports lent enough,
+        )
 
-  pub burst_ends : Ends
-  unfolding burst_answered burst_answers_after after_singles list_after
-  burst_ends = go (eqb number 0) refl
-    where
-      go : (p : Bool) → eqb number 0 ≡ p → Ends
-      go true e =
-          let enough : length reports ≤ length lent =
-          list_enough (length reports) (length lent) (eqb-true number 0 e) in
-          rw e (
-            ap (λ (u : Table). record { number = number; table = u }) (table-all at t reports),
-            list_all at t reports lent enough,
-          )
-      go false e = rw e (refl, refl)
+    -- refused, table and list are as they were
+    pub burst-refused :
+        (refused : RefusalNumber) → Err refused ≡ burst_checked (length reports) (length lent) →
+        (◌≡◌ {A = Answered} (record { number = refusal_number refused; table = t }) (burst_answered t reports at lent))
+        × (lent ≡ burst_answers_after t reports at lent)
+    unfolding burst_answered burst_answers_after
+    burst-refused refused e =
+        let is = refused_by (burst_checks (length reports) (length lent)) (length reports) refused e in
+        let some = ne_eqb (refusal_number refused) 0 (number_positive refused) in
+        rw (is, some) (refl, refl)

@@ -20,7 +20,7 @@ use Rattle.table.specs.Calls.{answered}
 use Rattle.table.specs.History.{answers_from, table_from}
 use Rattle.table.specs.Numbers.{numbers_into}
 use Rattle.table.proofs.Agreement.Theorem.{reached_further, reached-answers}
-use Rattle.burst.specs.Burst.{report_calls, burst_limit, burst_checks, burst_answered, burst_answers_after}
+use Rattle.burst.specs.Burst.{report_calls, burst_limit, burst_checks, burst_number, burst_answered, burst_answers_after}
 use Rattle.burst.specs.Singles.{after_singles, single_number, EveryBurst, EmptyBurst}
 use Rattle.burst.specs.Reaching.{EveryBurstReached}
 use Rattle.burst.proofs.Laws.{length-report_calls, number_front, table-all}
@@ -59,15 +59,15 @@ length_into t (x ∷ xs) at (y ∷ ys) room =
 
 -- ---- the request
 
-checks_long : (reports many : ℕ) → 64 < reports → burst_checks reports many ≡ long_burst
+checks_long : (reports many : ℕ) → 64 < reports → burst_number reports many ≡ long_burst
 unfolding burst_checks
 checks_long reports many h = rw (lt-ltb burst_limit reports (omega arith)) refl
 
-checks_short : (reports many : ℕ) → reports ≤ 64 → many < reports → burst_checks reports many ≡ short_answers
+checks_short : (reports many : ℕ) → reports ≤ 64 → many < reports → burst_number reports many ≡ short_answers
 unfolding burst_checks
 checks_short reports many h k = rw (le-ltb burst_limit reports (omega arith), lt-ltb many reports k) refl
 
-checks_none : (reports many : ℕ) → reports ≤ 64 → reports ≤ many → burst_checks reports many ≡ 0
+checks_none : (reports many : ℕ) → reports ≤ 64 → reports ≤ many → burst_number reports many ≡ 0
 unfolding burst_checks
 checks_none reports many h k = rw (le-ltb burst_limit reports (omega arith), le-ltb many reports k) refl
 
@@ -76,13 +76,13 @@ unfolding burst_answered burst_answers_after
 every_burst t reports at lent =
     record {
       long = λ h.
-          let e : burst_checks (length reports) (length lent) ≡ long_burst = checks_long _ _ h in
+          let e : burst_number (length reports) (length lent) ≡ long_burst = checks_long _ _ h in
           record { number = e; table = rw e refl; list = rw e refl };
       short = λ h k.
-          let e : burst_checks (length reports) (length lent) ≡ short_answers = checks_short _ _ h k in
+          let e : burst_number (length reports) (length lent) ≡ short_answers = checks_short _ _ h k in
           record { number = e; table = rw e refl; list = rw e refl };
       rest = λ h k.
-          let e : burst_checks (length reports) (length lent) ≡ 0 = checks_none _ _ h k in
+          let e : burst_number (length reports) (length lent) ≡ 0 = checks_none _ _ h k in
           record {
             number = e;
             table = rw e (sym (table-all at t reports));
@@ -95,7 +95,7 @@ every_burst t reports at lent =
 pub empty_burst : EmptyBurst
 unfolding burst_answered burst_answers_after report_calls table_from answers_from
 empty_burst t at lent =
-    let e : burst_checks 0 (length lent) ≡ 0 = checks_none 0 (length lent) zero-le zero-le in
+    let e : burst_number 0 (length lent) ≡ 0 = checks_none 0 (length lent) zero-le zero-le in
     record { number = e; table = rw e refl; list = rw e refl }
 
 -- ---- demand 3
@@ -104,7 +104,7 @@ pub burst_reached : EveryBurstReached
 unfolding burst_answered burst_answers_after records_of
 burst_reached o calls t ms here reports at ranges lent taken =
     let more = report_calls at reports in
-    let none : eqb (burst_checks (length reports) (length lent)) 0 ≡ true = eq-eqb _ 0 taken in
+    let none : eqb (burst_number (length reports) (length lent)) 0 ≡ true = eq-eqb _ 0 taken in
     let behind : drop (length calls) (answers o [] (calls ++ more)) ≡ answers o (records_of ms) more =
     rw (here.members_are, rows_after-all o [] calls) (answers-behind o calls more) in
     record {

@@ -6,7 +6,8 @@
 use Rattle.std.specs.Prelude.{ℕ, ◌≡◌, List, [], ◌++◌, length, drop}
 use Rattle.register.specs.declared.Record.{Record}
 use Rattle.register.specs.declared.Reading.{Reading}
-use Rattle.register.specs.Register.{Opening, Call, answers}
+use Rattle.register.specs.declared.Opening.{Opening}
+use Rattle.register.specs.Register.{Call, answers}
 use Rattle.register.specs.Tallies.{Members, members_after_all}
 use Rattle.register.specs.Promise.{AllInRange}
 use Rattle.table.specs.declared.Table.{Table}

@@ -1,5 +1,7 @@
 -- The papers' cases hold, by computing the definitions; E8's tables in either order by its theorem.
 use Prim.Native.Nat.{ℕ, ◌+◌}
+use Rattle.std.specs.Prelude.{Result, Ok, Err}
+use Rattle.refusals.specs.declared.RefusalNumber.{RefusalNumber}
 use mathlib.Core.List.{[]}
 use mathlib.Core.Path.{◌≡◌, refl, ap}
 use native.Mathlib.Omega.{arith}
@@ -7,7 +9,6 @@ use lib.Count.{count_trailing_zeros}
 use Rattle.times.specs.Times.{difference_mod, step, unwrapped, expanded, delay}
 use Rattle.origin.specs.Origins.{same_bytes, same_origin}
 use Rattle.places.specs.Places.{is_held, held_in, lowest_free, with_place, without_place}
-use Rattle.register.specs.declared.Choice.{Choice}
 use Rattle.register.specs.declared.Target.{Target}
 use Rattle.register.specs.Register.{filter, any, report_checks, farewell_checks}
 use Rattle.register.specs.Tallies.{records_of, members_after_all}
@@ -60,9 +61,9 @@ either_order both =
     reading (λ same. omega (arith, same)) both).alike
 
 -- a field of the target, or 0 where there is none
-abbrev shown_by : (Target → ℕ) → Choice → ℕ
-shown_by field (Choice.Target x) = field x
-shown_by field (Choice.Refused number) = 0
+abbrev shown_by : (Target → ℕ) → Result Target RefusalNumber → ℕ
+shown_by field (Ok x) = field x
+shown_by field (Err number) = 0
 
 -- two tables whose targets differ in a field differ in more than places
 told_apart :

@@ -1,6 +1,9 @@
 -- The bench cases of document 01 that are marked P, and those of document 02, E3 and E5 to E9, as one list of
 -- statements about the definitions.
 use Rattle.std.specs.Prelude.{ℕ, zero, suc, ◌+◌, ◌-◌, ◌*◌, ◌^◌, false, List, [], ◌∷◌, ◌≡◌, pos, take, replicate}
+use Rattle.std.specs.Prelude.{Result, Ok, Err, true, Bool}
+use Rattle.register.specs.declared.Target.{Target}
+use Rattle.refusals.specs.declared.RefusalNumber.{RefusalNumber}
 use Rattle.buffer.specs.Buffer.{buffer}
 use Rattle.idms.specs.declared.Report.{Report}
 use Rattle.idms.specs.declared.Settings.{Settings}
@@ -8,9 +11,8 @@ use Rattle.origin.specs.declared.Origin.{Origin}
 use Rattle.times.specs.Times.{ntp_age, delay, expanded, is_far, is_aged, is_badly_presented}
 use Rattle.register.specs.declared.Record.{Record}
 use Rattle.register.specs.declared.Reading.{Reading}
-use Rattle.register.specs.declared.Choice.{Choice}
-use Rattle.register.specs.declared.Verdict.{Verdict}
-use Rattle.register.specs.Register.{Opening, Call, presents}
+use Rattle.register.specs.declared.Opening.{Opening}
+use Rattle.register.specs.Register.{Call, presents}
 use Rattle.register.specs.Choosing.{lateness_of}
 use Rattle.register.specs.SettingsCheck.{target_settings}
 use Rattle.table.specs.declared.Table.{Table}
@@ -23,7 +25,6 @@ use Rattle.table.specs.History.{answers_from, table_from}
 use Rattle.table.specs.ArrivalOrder.{AlikeButPlaces}
 use Rattle.table.specs.SettingsCheck.{verdict_on}
 use Rattle.burst.specs.Burst.{burst_answered, burst_answers_after}
-use Rattle.replay.specs.declared.Replayed.{Replayed}
 use Rattle.replay.specs.Replay.{replayed, replayed_rows}
 use Rattle.writer.specs.Messages.{report_message, settings_message}
 
@@ -77,9 +78,9 @@ in_turn x y = Call.report x reading ∷ Call.report y reading ∷ []
 abbrev pub holding : Record → Record → Table
 holding x y = table_from (opened opening).table (in_turn x y)
 
-abbrev pub target : (source received rtp presented counted : ℕ) → Choice
+abbrev pub target : (source received rtp presented counted : ℕ) → Result Target RefusalNumber
 target source received rtp presented counted =
-    Choice.Target
+    Ok
     (record {
       source = source;
       group = 42;
@@ -105,9 +106,9 @@ report_item x =
     }
 
 -- what the writers leave in buffers of zeros, as long as their messages
-abbrev pub settings_bytes : ℕ → Choice → List ℕ
-settings_bytes sender (Choice.Target x) = buffer (settings_message (target_settings sender x)) (replicate 36 0)
-settings_bytes sender (Choice.Refused number) = []
+abbrev pub settings_bytes : ℕ → Result Target RefusalNumber → List ℕ
+settings_bytes sender (Ok x) = buffer (settings_message (target_settings sender x)) (replicate 36 0)
+settings_bytes sender (Err number) = []
 
 abbrev pub report_bytes : Report → List ℕ
 report_bytes r = buffer (report_message r) (replicate 40 0)
@@ -349,10 +350,10 @@ example_recording =
 abbrev pub E7Example : Type 0
 E7Example =
     (replayed example_recording (replicate 7 99)
-    ≡ Replayed.Entries 2 (target 20 (seconds 998) 8820000 (seconds 998 + 0xC0000000) 2))
+    ≡ Ok (record { entries = 2; choice = target 20 (seconds 998) 8820000 (seconds 998 + 0xC0000000) 2 }))
     × (replayed_rows example_recording (replicate 7 99) ≡ 1 ∷ 1 ∷ 0 ∷ 1 ∷ 1 ∷ 0 ∷ 99 ∷ [])
-    × (replayed (take 175 example_recording) (replicate 7 99) ≡ Replayed.Refused 25)
-    × (replayed example_recording (replicate 5 99) ≡ Replayed.Refused 10)
+    × (replayed (take 175 example_recording) (replicate 7 99) ≡ Err RefusalNumber.BadLayout)
+    × (replayed example_recording (replicate 5 99) ≡ Err RefusalNumber.ShortBuffer)
 
 -- document 02, E8: the reports of P1 and P2 in either order are accepted; their places differ, and all else agrees
 abbrev pub E8EitherOrder : Type 0
@@ -416,36 +417,36 @@ abbrev pub packet_at : ℕ → Settings
 packet_at units = packet_of 42 (seconds 998) 8820000 (seconds 998 + units)
 
 -- the verdict where P1 and P2 are held
-abbrev pub verdict_with : Settings → (slack : ℕ) → Verdict
+abbrev pub verdict_with : Settings → (slack : ℕ) → Result Bool RefusalNumber
 verdict_with s slack = verdict_on (holding ten twenty) s reading slack
 
 -- document 02, E9: our own choice passes with slack 0, and P1's own times do not, which suit the least late member
 -- alone
 abbrev pub E9Own : Type 0
 E9Own =
-    (verdict_with (packet_at 0xC0000000) 0 ≡ Verdict.Yes)
-    × (verdict_with (packet_of 42 (seconds 999) 8910000 (seconds 999 + 0x80000000)) 0 ≡ Verdict.No)
+    (verdict_with (packet_at 0xC0000000) 0 ≡ Ok true)
+    × (verdict_with (packet_of 42 (seconds 999) 8910000 (seconds 999 + 0x80000000)) 0 ≡ Ok false)
 
 -- one unit earlier is no, and one later without slack; a slack of 1 is 2^16 units, and the greatest 30 s
 abbrev pub E9Limits : Type 0
 E9Limits =
-    (verdict_with (packet_at 0xBFFFFFFF) 0 ≡ Verdict.No)
-    × (verdict_with (packet_at 0xC0000001) 0 ≡ Verdict.No)
-    × (verdict_with (packet_at (0xC0000000 + 2 ^ 16)) 1 ≡ Verdict.Yes)
-    × (verdict_with (packet_at (0xC0000000 + 2 ^ 16 + 1)) 1 ≡ Verdict.No)
-    × (verdict_with (packet_at (30 * 2 ^ 32)) 1966080 ≡ Verdict.Yes)
+    (verdict_with (packet_at 0xBFFFFFFF) 0 ≡ Ok false)
+    × (verdict_with (packet_at 0xC0000001) 0 ≡ Ok false)
+    × (verdict_with (packet_at (0xC0000000 + 2 ^ 16)) 1 ≡ Ok true)
+    × (verdict_with (packet_at (0xC0000000 + 2 ^ 16 + 1)) 1 ≡ Ok false)
+    × (verdict_with (packet_at (30 * 2 ^ 32)) 1966080 ≡ Ok true)
 
 -- each refusal, with the checks behind it failing too: 11, 20, 13, 15, 16 and 17
 abbrev pub E9Refusals : Type 0
 E9Refusals =
-    (verdict_on (opened opening).table (packet_of 43 0 0 0) reading 1966081 ≡ Verdict.Refused 11)
-    × (verdict_on (opened opening).table (packet_of 43 0 0 0) reading 1966080 ≡ Verdict.Refused 20)
-    × (verdict_with (packet_of 43 0 0 0) 0 ≡ Verdict.Refused 13)
-    × (verdict_with (packet_of 42 0 0 0) 0 ≡ Verdict.Refused 15)
-    × (verdict_with (packet_of 42 (seconds 998) 0 0) 0 ≡ Verdict.Refused 16)
-    × (verdict_with (packet_of 42 (seconds 998) 8820000 0) 0 ≡ Verdict.Refused 17)
-    × (verdict_with (packet_at 0) 0 ≡ Verdict.Refused 17)
-    × (verdict_with (packet_at (30 * 2 ^ 32 + 1)) 0 ≡ Verdict.Refused 17)
+    (verdict_on (opened opening).table (packet_of 43 0 0 0) reading 1966081 ≡ Err RefusalNumber.OutOfRange)
+    × (verdict_on (opened opening).table (packet_of 43 0 0 0) reading 1966080 ≡ Err RefusalNumber.NoneCounted)
+    × (verdict_with (packet_of 43 0 0 0) 0 ≡ Err RefusalNumber.OtherStream)
+    × (verdict_with (packet_of 42 0 0 0) 0 ≡ Err RefusalNumber.ReceivedFar)
+    × (verdict_with (packet_of 42 (seconds 998) 0 0) 0 ≡ Err RefusalNumber.RtpAged)
+    × (verdict_with (packet_of 42 (seconds 998) 8820000 0) 0 ≡ Err RefusalNumber.BadlyPresented)
+    × (verdict_with (packet_at 0) 0 ≡ Err RefusalNumber.BadlyPresented)
+    × (verdict_with (packet_at (30 * 2 ^ 32 + 1)) 0 ≡ Err RefusalNumber.BadlyPresented)
 
 -- all of them
 unfoldable pub papers : List (Type 0)

@@ -5,74 +5,66 @@
 mod settings;
 
 ghost use Rattle.std.specs.Prelude.{◌≡◌, not, ◌&&◌, eqb};
+ghost use Rattle.refusals.specs.Refusals.{answer_number};
 ghost use Rattle.times.specs.Times.{is_badly_presented};
-ghost use Rattle.register.specs.Register.{is_refused_opening, report_checks};
+ghost use Rattle.register.specs.Register.{is_refused_opening, is_other_stream, report_checks};
 
-use refusals::{BADLY_PRESENTED, NO_ROOM, OTHER_ORIGIN, OTHER_STREAM, RECEIVED_FAR, RTP_AGED};
-use register::{Reading, Record};
+use refusals::RefusalNumber;
+use register::{Opening, Reading, Record};
 pub use settings::settings_number;
 use times::{is_aged, is_badly_presented, is_far};
 
 // Whether 12 is given, whatever the media source.
-pub fn is_refused_opening(group: u32, rate: u32) -> bool
-    ensures { result ≡ is_refused_opening (record { group = group; media = 0; rate = rate }) }
+pub fn is_refused_opening(opening: Opening) -> bool
+    ensures { result ≡ is_refused_opening opening }
 {
-    if group == 0 {
-        return true;
-    }
-    if group == 4294967295 {
-        return true;
-    }
-    if rate == 0 {
-        return true;
-    }
-    192000 < rate
+    opening.group == 0 || opening.group == 4294967295 || opening.rate == 0 || 192000 < opening.rate
+}
+
+// Check 13: another group or media source.
+pub(crate) fn is_other_stream(opening: Opening, group: u32, media: u32) -> bool
+    ensures { result ≡ is_other_stream opening group media }
+{
+    group != opening.group || media != opening.media
 }
 
 // Check 17, of any report.
 fn presents_badly(p: u8, received: u64, presented: u32) -> bool
     ensures { result ≡ (not (eqb p 0) && is_badly_presented received presented) }
 {
-    if p == 0 {
-        return false;
-    }
-    is_badly_presented(received, presented)
+    p != 0 && is_badly_presented(received, presented)
 }
 
-// The first check that applies to a report, or 0. `elsewhere` says whether its number is held by another origin,
-// `full` whether it is new and all places are held.
+// The first check that applies to a report. `elsewhere` says whether its number is held by another origin, `full`
+// whether it is new and all places are held.
+#[tactic(auto, unfolding(register::specs::Register::report_checks))]
 pub fn report_number(
-    group: u32,
-    media: u32,
-    rate: u32,
+    opening: Opening,
     x: Record,
     at: Reading,
     elsewhere: bool,
     full: bool,
-) -> u64
-    ensures { result ≡ report_checks (record { group = group; media = media; rate = rate }) x at elsewhere full }
+) -> Result<(), RefusalNumber>
+    ensures { answer_number result ≡ report_checks opening x at elsewhere full }
 {
     let report = x.report;
-    if report.group != group {
-        return OTHER_STREAM;
-    }
-    if report.media != media {
-        return OTHER_STREAM;
+    if is_other_stream(opening, report.group, report.media) {
+        return Err(RefusalNumber::OtherStream);
     }
     if elsewhere {
-        return OTHER_ORIGIN;
+        return Err(RefusalNumber::OtherOrigin);
     }
     if is_far(at.ntp, report.received) {
-        return RECEIVED_FAR;
+        return Err(RefusalNumber::ReceivedFar);
     }
-    if is_aged(rate, at.rtp, report.rtp) {
-        return RTP_AGED;
+    if is_aged(opening.rate, at.rtp, report.rtp) {
+        return Err(RefusalNumber::RtpAged);
     }
     if presents_badly(report.p, report.received, report.presented) {
-        return BADLY_PRESENTED;
+        return Err(RefusalNumber::BadlyPresented);
     }
     if full {
-        return NO_ROOM;
+        return Err(RefusalNumber::NoRoom);
     }
-    0
+    Ok(())
 }

@@ -2,46 +2,43 @@
 ghost use Rattle.std.specs.Prelude.{◌≡◌};
 ghost use Rattle.register.specs.SettingsCheck.{settings_checks};
 
+use crate::is_other_stream;
 use idms::Settings;
-use refusals::{BADLY_PRESENTED, NONE_COUNTED, OTHER_STREAM, OUT_OF_RANGE, RECEIVED_FAR, RTP_AGED};
-use register::Reading;
+use refusals::RefusalNumber;
+use register::{Opening, Reading};
 use times::{is_aged, is_far, settings_are_badly_presented};
 
 // The greatest slack, in units of 2^-16 s: 30 s.
 const SLACK_LIMIT: u32 = 1966080;
 
-// The first check that applies to a settings packet, or 0. `none` says whether no member is counted.
+// The first check that applies to a settings packet. `none` says whether no member is counted.
+#[tactic(auto, unfolding(register::specs::SettingsCheck::settings_checks))]
 pub fn settings_number(
-    group: u32,
-    media: u32,
-    rate: u32,
+    opening: Opening,
     s: Settings,
     at: Reading,
     slack: u32,
     none: bool,
-) -> u64
-    ensures { result ≡ settings_checks (record { group = group; media = media; rate = rate }) s at slack none }
+) -> Result<(), RefusalNumber>
+    ensures { result ≡ settings_checks opening s at slack none }
 {
     if SLACK_LIMIT < slack {
-        return OUT_OF_RANGE;
+        return Err(RefusalNumber::OutOfRange);
     }
     if none {
-        return NONE_COUNTED;
+        return Err(RefusalNumber::NoneCounted);
     }
-    if s.group != group {
-        return OTHER_STREAM;
-    }
-    if s.media != media {
-        return OTHER_STREAM;
+    if is_other_stream(opening, s.group, s.media) {
+        return Err(RefusalNumber::OtherStream);
     }
     if is_far(at.ntp, s.received) {
-        return RECEIVED_FAR;
+        return Err(RefusalNumber::ReceivedFar);
     }
-    if is_aged(rate, at.rtp, s.rtp) {
-        return RTP_AGED;
+    if is_aged(opening.rate, at.rtp, s.rtp) {
+        return Err(RefusalNumber::RtpAged);
     }
     if settings_are_badly_presented(s.received, s.presented) {
-        return BADLY_PRESENTED;
+        return Err(RefusalNumber::BadlyPresented);
     }
-    0
+    Ok(())
 }

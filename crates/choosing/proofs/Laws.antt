@@ -2,6 +2,5 @@ pub mod Marked
 pub mod Counted
 pub mod Latest
 pub mod Candidates
-pub mod LatestStep
 pub mod Biased
 pub mod Verdict

@@ -7,7 +7,8 @@ use mathlib.Core.Path.{◌≡◌, refl, sym, ap, ◌∙◌}
 use lib.ListN.{length}
 use Rattle.places.specs.Places.{held_in}
 use Rattle.register.specs.declared.Reading.{Reading}
-use Rattle.register.specs.Register.{Opening, Rows}
+use Rattle.register.specs.declared.Opening.{Opening}
+use Rattle.register.specs.Register.{Rows}
 use Rattle.register.specs.Choosing.{counted, lateness_of, choice}
 use Rattle.register.specs.Promise.{Unique, Promised}
 use Rattle.register.proofs.Unique.{unique-permuted}

@@ -1,12 +1,13 @@
 -- Choosing among members at places, of which a word marks those held: one pass marks the counted members, another finds
 -- the latest. Of a table, choosing looks at the rate, the word and the members' records.
-use Rattle.std.specs.Prelude.{ℕ, Bool, cond, ◌&&◌, [], ◌∷◌, eqb, ℤ}
-use Rattle.refusals.specs.Refusals.{none_counted}
+use Rattle.std.specs.Prelude.{ℕ, Bool, cond, ◌&&◌, [], ◌∷◌, eqb, ℤ, Result, Err}
+use Rattle.refusals.specs.declared.RefusalNumber.{RefusalNumber}
 use Rattle.places.specs.Places.{held_in}
 use Rattle.register.specs.declared.Record.{Record}
 use Rattle.register.specs.declared.Reading.{Reading}
-use Rattle.register.specs.declared.Choice.{Choice}
-use Rattle.register.specs.Register.{Opening, Rows, presents, fresh_at}
+use Rattle.register.specs.declared.Target.{Target}
+use Rattle.register.specs.declared.Opening.{Opening}
+use Rattle.register.specs.Register.{Rows, presents, fresh_at}
 use Rattle.register.specs.Choosing.{lateness_of, target_of}
 use Rattle.choosing.specs.Latest.{latest}
 use Rattle.choosing.specs.declared.Marks.{Marks}
@@ -42,14 +43,14 @@ abbrev pub counted_word : ℕ → Reading → ℕ → Rows → ℕ
 counted_word rate at held records = counted_in (marks_at rate at held records)
 
 -- the latest row, or 20 without rows
-unfoldable pub latest_target : (Record → ℤ) → ℕ → Rows → Choice
-latest_target late count [] = Choice.Refused none_counted
+unfoldable pub latest_target : (Record → ℤ) → ℕ → Rows → Result Target RefusalNumber
+latest_target late count [] = Err RefusalNumber.NoneCounted
 latest_target late count (row ∷ rows) = target_of (latest late row rows) count
 
 -- the latest of the members that a word marks, all of them counted
-abbrev pub choice_in : ℕ → Reading → ℕ → Rows → Choice
+abbrev pub choice_in : ℕ → Reading → ℕ → Rows → Result Target RefusalNumber
 choice_in rate at word records = latest_target (lateness_of (at_rate rate) at) (held_in 64 word) (marked_at word records)
 
 -- the choice at a rate and a reading
-unfoldable pub choice_among : ℕ → Reading → ℕ → Rows → Choice
+unfoldable pub choice_among : ℕ → Reading → ℕ → Rows → Result Target RefusalNumber
 choice_among rate at held records = choice_in rate at (counted_word rate at held records) records

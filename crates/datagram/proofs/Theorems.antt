@@ -1,6 +1,8 @@
 -- What a caller may rely on, beyond each call's own contract: which numbers a datagram is refused with, and what
 -- reduced size changes (E2).
 use Prim.Native.Nat.{ℕ, suc, zero, ◌+◌, ◌-◌, ◌%◌, ◌≤◌, ◌<◌}
+use Rattle.refusals.specs.declared.RefusalNumber.{RefusalNumber}
+use Rattle.refusals.specs.Refusals.{refusal_number}
 use mathlib.Core.Path.{◌≡◌, refl, sym, ap, ap₂, ◌∙◌}
 use mathlib.Core.List.{List}
 use mathlib.Core.Bool.{Bool, true, false, not, ◌||◌}
@@ -8,7 +10,6 @@ use lib.ListN.{length}
 use lib.Dec.{ltb, eqb}
 use native.Mathlib.Omega.{arith}
 use borrow.Author.Tests.{ltb-true, ltb-false, eqb-false}
-use Rattle.refusals.specs.Refusals.{bad_length, bad_first}
 use Rattle.packet.specs.declared.contents.Packet.{Packet}
 use Rattle.packet.specs.Checks.{Check, passed, refused, and_then, refuse_if}
 use Rattle.packet.specs.Packet.{size, head_check}
@@ -24,14 +25,13 @@ use Rattle.datagram.proofs.Laws.Walk.{check_each-part, check_each_end, check_eac
 
 -- ---- what holds of every header's and every block's refusals, and of 1, holds of the datagram's
 
-module _ (P : ℕ → ℕ → Type 0) (d : List ℕ) (block : (stop at : ℕ) → Refuses P (block_check d stop at)) where
+module _ (P : RefusalNumber → ℕ → Type 0) (d : List ℕ) (block : (stop at : ℕ) → Refuses P (block_check d stop at)) where
   parts_refuses : (x : Packet) → Refuses P (parts_check d x)
   parts_refuses (Packet.Unread next) = passed_refuses P
   parts_refuses (Packet.Sources first stop next) = passed_refuses P
   parts_refuses (Packet.Blocks sender first stop next) =
       check_each_refuses P (block_check d stop) (block_size d) stop first (block stop)
   parts_refuses (Packet.Settings next) = passed_refuses P
-  parts_refuses Packet.Unreadable = passed_refuses P
 
   module _ (reduced : Bool) (head : (p : ℕ) → Refuses P (head_check reduced d p)) where
     packet_refuses : (p : ℕ) → Refuses P (packet_check reduced d p)
@@ -39,19 +39,19 @@ module _ (P : ℕ → ℕ → Type 0) (d : List ℕ) (block : (stop at : ℕ) �
     packet_refuses p =
         and_then_refuses P (head_check reduced d p) (parts_check d (contents d p)) (head p) (parts_refuses (contents d p))
 
-    datagram_refuses : P bad_length 0 → Refuses P (datagram_check reduced d)
+    datagram_refuses : P RefusalNumber.BadLength 0 → Refuses P (datagram_check reduced d)
     unfolding datagram_check
     datagram_refuses one =
         refuse_if_refuses P (length_is_bad (length d)) _ 0 _ one
         (check_each_refuses P (packet_check reduced d) (size d) (length d) 0 packet_refuses)
 
 abbrev pub Numbered : Check → Type 0
-Numbered check = Refuses (λ (number place : ℕ). DatagramNumber number) check
+Numbered check = Refuses (λ (number : RefusalNumber) (place : ℕ). DatagramNumber number) check
 
 -- A datagram is refused with a number of 1 to 7.
 pub datagram_numbered : (reduced : Bool) (d : List ℕ) → Numbered (datagram_check reduced d)
 datagram_numbered reduced d =
-    datagram_refuses (λ (number place : ℕ). DatagramNumber number) d
+    datagram_refuses (λ (number : RefusalNumber) (place : ℕ). DatagramNumber number) d
     (λ stop at number place e.
     let n : _ = block_numbered d stop at number place e in (omega (arith, n.0), omega (arith, n.1)))
     reduced
@@ -61,13 +61,13 @@ datagram_numbered reduced d =
 
 -- Where reduced size was agreed, it is not refused with 4.
 pub datagram_not_four :
-    (d : List ℕ) → Refuses (λ (number place : ℕ). number ≡ bad_first → ⊥) (datagram_check true d)
+    (d : List ℕ) → Refuses (λ (number : RefusalNumber) (place : ℕ). number ≡ RefusalNumber.BadFirst → ⊥) (datagram_check true d)
 datagram_not_four d =
-    datagram_refuses (λ (number place : ℕ). number ≡ bad_first → ⊥) d
-    (λ stop at number place e four. omega (arith, (block_numbered d stop at number place e).0))
+    datagram_refuses (λ (number : RefusalNumber) (place : ℕ). number ≡ RefusalNumber.BadFirst → ⊥) d
+    (λ stop at number place e four. omega (arith, ap refusal_number four, (block_numbered d stop at number place e).0))
     true
     (agreed_not_four d)
-    (λ four. omega arith)
+    (λ four. omega (arith, ap refusal_number four))
 
 -- ---- reduced size changes an answer of 4 at the first packet, and no other
 
@@ -113,11 +113,11 @@ module _ (d : List ℕ) (some : 0 < length d) where
       packets_part reduced d 0 some
       ∙ ap (and_then (packet_check reduced d 0)) (packets_alike reduced d (0 + size d 0) (λ e. omega (arith, e)))
 
-  first_refused : head_check false d 0 ≡ refused bad_first 0 → packets_check false d 0 ≡ refused bad_first 0
+  first_refused : head_check false d 0 ≡ refused RefusalNumber.BadFirst 0 → packets_check false d 0 ≡ refused RefusalNumber.BadFirst 0
   unfolding packet_check
   first_refused e = first_part false ∙ rw e
 
-  first_alike : (packets_check false d 0 ≡ refused bad_first 0 → ⊥) → packets_check true d 0 ≡ packets_check false d 0
+  first_alike : (packets_check false d 0 ≡ refused RefusalNumber.BadFirst 0 → ⊥) → packets_check true d 0 ≡ packets_check false d 0
   unfolding packet_check
   first_alike h =
       let head : head_check true d 0 ≡ head_check false d 0 = alike_unless_first d 0 (λ e. h (first_refused e)) in
@@ -127,14 +127,14 @@ module _ (d : List ℕ) (some : 0 < length d) where
 
 -- Unless it is refused with 4 where reduced size was not agreed, a datagram is judged alike where it was.
 pub datagram-alike :
-    (d : List ℕ) → (datagram_check false d ≡ refused bad_first 0 → ⊥) → datagram_check true d ≡ datagram_check false d
+    (d : List ℕ) → (datagram_check false d ≡ refused RefusalNumber.BadFirst 0 → ⊥) → datagram_check true d ≡ datagram_check false d
 unfolding datagram_check
 datagram-alike d h = go (length_is_bad (length d)) refl h
   where
     go :
         (t : Bool) → length_is_bad (length d) ≡ t
-        → (refuse_if t bad_length 0 (packets_check false d 0) ≡ refused bad_first 0 → ⊥)
-        → refuse_if t bad_length 0 (packets_check true d 0) ≡ refuse_if t bad_length 0 (packets_check false d 0)
+        → (refuse_if t RefusalNumber.BadLength 0 (packets_check false d 0) ≡ refused RefusalNumber.BadFirst 0 → ⊥)
+        → refuse_if t RefusalNumber.BadLength 0 (packets_check true d 0) ≡ refuse_if t RefusalNumber.BadLength 0 (packets_check false d 0)
     go true t h = refl
     go false t h =
         let parts : _ = or_false (eqb (length d) 0 || not (eqb (length d % 4) 0)) (ltb 2048 (length d)) t in
@@ -146,4 +146,4 @@ datagram-alike d h = go (length_is_bad (length d)) refl h
 pub passes_agreed : (reduced : Bool) (d : List ℕ) → datagram_check reduced d ≡ passed → datagram_check true d ≡ passed
 passes_agreed true d e = e
 passes_agreed false d e =
-    datagram-alike d (λ four. let z : ◌≡◌ {A = ℕ} 0 1 = cc (sym e ∙ four) in omega arith) ∙ e
+    datagram-alike d (λ four. cc (sym e ∙ four)) ∙ e

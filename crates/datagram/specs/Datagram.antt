@@ -1,8 +1,9 @@
 -- A whole datagram: what is checked, packet by packet from the front, and the items in datagram order (document 01,
 -- "Walking a datagram", and E2: check 4 of the first packet is not made where reduced size was agreed).
 use Rattle.std.specs.Prelude.{ℕ, ◌%◌, ◌≤◌, List, [], ◌∷◌, Bool, not, ◌||◌, length, ltb, eqb}
+use Rattle.refusals.specs.declared.RefusalNumber.{RefusalNumber}
+use Rattle.refusals.specs.Refusals.{refusal_number}
 use Rattle.idms.specs.declared.Placed.{Placed}
-use Rattle.refusals.specs.Refusals.{bad_length}
 use Rattle.packet.specs.declared.contents.Packet.{Packet}
 use Rattle.packet.specs.Checks.{Check, passed, refuse_if, and_then}
 use Rattle.packet.specs.Packet.{size, head_check}
@@ -29,7 +30,6 @@ parts_check d (Packet.Unread next) = passed
 parts_check d (Packet.Sources first stop next) = passed
 parts_check d (Packet.Blocks sender first stop next) = blocks_check d stop first
 parts_check d (Packet.Settings next) = passed
-parts_check d Packet.Unreadable = passed
 
 -- one packet's checks: 2, 3, 4, 5, then those of its parts
 unfoldable pub packet_check : Bool → List ℕ → ℕ → Check
@@ -41,7 +41,6 @@ parts_items d p (Packet.Unread next) = []
 parts_items d p (Packet.Sources first stop next) = source_items d stop first
 parts_items d p (Packet.Blocks sender first stop next) = blocks_items d sender stop first
 parts_items d p (Packet.Settings next) = settings_item d p ∷ []
-parts_items d p Packet.Unreadable = []
 
 unfoldable pub packet_items : List ℕ → ℕ → List Placed
 packet_items d p = parts_items d p (contents d p)
@@ -59,12 +58,12 @@ length_is_bad n = eqb n 0 || not (eqb (n % 4) 0) || ltb 2048 n
 
 -- The first check that applies answers for the whole datagram.
 unfoldable pub datagram_check : Bool → List ℕ → Check
-datagram_check reduced d = refuse_if (length_is_bad (length d)) bad_length 0 (packets_check reduced d 0)
+datagram_check reduced d = refuse_if (length_is_bad (length d)) RefusalNumber.BadLength 0 (packets_check reduced d 0)
 
 -- the placed items of a datagram that is not refused
 unfoldable pub datagram_items : List ℕ → List Placed
 datagram_items d = packets_items d 0
 
 -- the numbers that a datagram is refused with; 0 is none of them, and neither are 9 and 10
-abbrev pub DatagramNumber : ℕ → Type 0
-DatagramNumber n = (1 ≤ n) × (n ≤ 7)
+abbrev pub DatagramNumber : RefusalNumber → Type 0
+DatagramNumber refused = (1 ≤ refusal_number refused) × (refusal_number refused ≤ 7)

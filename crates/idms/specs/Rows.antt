@@ -1,9 +1,9 @@
 -- An item as a row of ten numbers, which is how it crosses to C, and one field of it.
 --     column 0 kind, 1 place, 2 source, 3 group, 4 media source, 5 received, 6 RTP, 7 presented, 8 payload type, 9 P
 use Rattle.std.specs.Prelude.{ℕ, List, [], ◌∷◌, Bool, true, false, cond, get_or, leb}
+use Rattle.std.specs.Prelude.{Option, Some, None}
 use Rattle.idms.specs.declared.Item.{Item}
 use Rattle.idms.specs.declared.Placed.{Placed}
-use Rattle.idms.specs.declared.Field.{Field}
 
 -- P as a number
 abbrev pub flag : Bool → ℕ
@@ -38,5 +38,5 @@ columns_of (Item.Settings s) = 8
 columns_of (Item.Farewell source) = 3
 
 -- the field of a number, where the item has it
-unfoldable pub field_of : Placed → ℕ → Field
-field_of p number = cond (leb (columns_of p.item) number) Field.Absent (Field.Value (get_or (row_of p) number 0))
+unfoldable pub field_of : Placed → ℕ → Option ℕ
+field_of p number = cond (leb (columns_of p.item) number) None (Some (get_or (row_of p) number 0))

@@ -5,6 +5,8 @@
 ghost use Rattle.std.specs.Prelude.{◌≡◌, ◌≤◌};
 ghost use Rattle.idms.specs.Rows.{row_of, columns_of, field_of};
 
+use refusals::RefusalNumber;
+
 // An IDMS report block (RFC 7272 section 6) with the SSRC of the XR packet's sender. The reader gives `presented` 0
 // where `p` is false; the type does not say so, and the writer refuses any other value there.
 #[derive(Clone, Copy)]
@@ -49,23 +51,8 @@ pub struct Placed {
 // A refusal's number and its byte place: that of a packet for 2 to 5, of a block for 6 and 7, and 0 for the others.
 #[derive(Clone, Copy)]
 pub struct Refusal {
-    pub number: u64,
+    pub number: RefusalNumber,
     pub place: usize,
-}
-
-// What reading gives at an index: the item there, or the refusal.
-#[derive(Clone, Copy)]
-pub enum Found {
-    Item(Placed),
-    Refused(Refusal),
-}
-
-// What a field's number finds.
-#[derive(Clone, Copy)]
-pub enum Field {
-    Value(u64),
-    // The item has no such field.
-    Absent,
 }
 
 // An item as ten numbers: kind, place, then its fields. A column that the item does not have holds 0.
@@ -115,13 +102,14 @@ fn columns(item: Item) -> u64
 }
 
 // The field that a row has at a column, where the item has it.
-pub fn field_at(p: Placed, number: u64) -> Field
+#[tactic(auto, unfolding(crate::specs::Rows::field_of))]
+pub fn field_at(p: Placed, number: u64) -> Option<u64>
     ensures { result ≡ field_of p number }
 {
     let item = p.item;
     if columns(item) <= number {
-        return Field::Absent;
+        return None;
     }
     let cells = row(p);
-    Field::Value(cells[number as usize])
+    Some(cells[number as usize])
 }

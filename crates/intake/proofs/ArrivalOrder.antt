@@ -5,7 +5,7 @@ use mathlib.Core.List.{List, ◌++◌}
 use mathlib.Core.Path.{◌≡◌, refl}
 use lib.Dec.{ltb}
 use lib.ListN.{length, drop}
-use Rattle.refusals.specs.Refusals.{short_buffer}
+use Rattle.refusals.specs.Refusals.{short_buffer, refusal_number}
 use Rattle.packet.specs.Checks.{Check, passed, refused}
 use Rattle.datagram.specs.Datagram.{datagram_check}
 use Rattle.register.specs.Register.{Call}
@@ -26,7 +26,12 @@ result_unless check calls lent t =
 
 brings_unless : (check : Check) (calls : List Call) (lent : List ℕ) → Brings (result_unless check calls lent) calls
 brings_unless (refused number place) calls lent =
-    record { made = false; show = λ numbers. (number, place, 0, lent); seen = λ t. refl; table = λ t. refl }
+    record {
+      made = false;
+      show = λ numbers. (refusal_number number, place, 0, lent);
+      seen = λ t. refl;
+      table = λ t. refl;
+    }
 brings_unless passed calls lent = go (ltb (length lent) (length calls)) refl
   where
     go : (b : Bool) → ltb (length lent) (length calls) ≡ b → Brings (result_unless passed calls lent) calls

@@ -1,6 +1,7 @@
 -- Laws of feeding: one item's part comes off the front of what a cursor gives, and off the calls, their numbers and the
 -- table that they leave.
-use Prim.Native.Nat.{ℕ, suc, zero, ◌+◌, ◌-◌, ◌≤◌, ◌<◌}
+use Prim.Native.Nat.{ℕ, suc, zero, ◌+◌, ◌≤◌, ◌<◌}
+use Rattle.std.specs.Prelude.{Some, None, Result, Ok, Err}
 use mathlib.Core.Path.{◌≡◌, refl, sym, ap, ◌∙◌}
 use mathlib.Core.Bool.{Bool}
 use mathlib.Core.List.{List, [], ◌∷◌, ◌++◌}
@@ -11,14 +12,11 @@ use borrow.Author.Tests.{lt-ltb, le-ltb}
 use Rattle.idms.specs.declared.Item.{Item}
 use Rattle.idms.specs.declared.Placed.{Placed}
 use Rattle.idms.specs.declared.Refusal.{Refusal}
-use Rattle.refusals.specs.Refusals.{short_buffer}
+use Rattle.refusals.specs.Refusals.{short_buffer, refusal_number}
 use Rattle.origin.specs.declared.Origin.{Origin}
 use Rattle.register.specs.declared.Reading.{Reading}
 use Rattle.register.specs.Register.{Call}
 use Rattle.rtcp.specs.declared.cursor.Cursor.{Cursor}
-use Rattle.rtcp.specs.declared.cursor.Opened.{Opened}
-use Rattle.rtcp.specs.declared.cursor.Step.{Step}
-use Rattle.datagram.specs.declared.Count.{Count}
 use Rattle.packet.specs.Checks.{Check, passed, refused}
 use Rattle.datagram.specs.Datagram.{datagram_check, datagram_items}
 use Rattle.rtcp.specs.Cursor.{next_of, given, start}
@@ -38,15 +36,12 @@ use Rattle.intake.specs.Steps.{calls_of_item, call_count, numbers_of}
 -- ---- given: what a cursor gives, by what it gives next
 
 pub given-item :
-    (k : ℕ) (d : List ℕ) (c : Cursor) (x : Placed) (n : Cursor) → 0 < k → next_of d c ≡ Step.Item x n
-    → given k d c ≡ x ∷ given (k - 1) d n
+    (k j : ℕ) (d : List ℕ) (c : Cursor) (x : Placed) (n : Cursor) → k ≡ suc j → next_of d c ≡ Some (x, n)
+    → given k d c ≡ x ∷ given j d n
 unfolding given
-given-item zero d c x n h e = absurd (omega arith)
-given-item (suc k) d c x n h e =
-    let less : suc k - 1 ≡ k = omega arith in
-    rw (e, given) (ap (λ (j : ℕ). x ∷ given j d n) (sym less))
+given-item k j d c x n h e = rw (h, e, given) refl
 
-pub given_end : (k : ℕ) (d : List ℕ) (c : Cursor) → next_of d c ≡ Step.End → given k d c ≡ []
+pub given_end : (k : ℕ) (d : List ℕ) (c : Cursor) → next_of d c ≡ None → given k d c ≡ []
 unfolding given
 given_end zero d c e = refl
 given_end (suc k) d c e = rw (e, given) refl
@@ -82,11 +77,11 @@ length_calls origin at (x ∷ xs) =
 -- ---- the calls of what a cursor gives, by what it gives next
 
 pub calls_item :
-    (origin : Origin) (at : Reading) (k : ℕ) (d : List ℕ) (c : Cursor) (x : Placed) (n : Cursor)
-    → 0 < k → next_of d c ≡ Step.Item x n
-    → calls_in origin at (given k d c) ≡ calls_of origin at x.item ++ calls_in origin at (given (k - 1) d n)
+    (origin : Origin) (at : Reading) (k j : ℕ) (d : List ℕ) (c : Cursor) (x : Placed) (n : Cursor)
+    → k ≡ suc j → next_of d c ≡ Some (x, n)
+    → calls_in origin at (given k d c) ≡ calls_of origin at x.item ++ calls_in origin at (given j d n)
 unfolding calls_in
-calls_item origin at k d c x n h e = ap (calls_in origin at) (given-item k d c x n h e)
+calls_item origin at k j d c x n h e = ap (calls_in origin at) (given-item k j d c x n h e)
 
 pub calls_none : (origin : Origin) (at : Reading) {items : List Placed} → items ≡ [] → calls_in origin at items ≡ []
 unfolding calls_in
@@ -209,7 +204,7 @@ module _
 -- ---- a datagram: what opening it says of its checks and its items
 
 pub cursor_items :
-    (reduced : Bool) (d : List ℕ) (n : ℕ) (c : Cursor) → cursor_on reduced d ≡ Opened.Items n c
+    (reduced : Bool) (d : List ℕ) (n : ℕ) (c : Cursor) → cursor_on reduced d ≡ Ok (n, c)
     → (datagram_check reduced d ≡ passed) × (given n d c ≡ datagram_items d)
 unfolding cursor_on item_count
 cursor_items reduced d n c e = go (datagram_check reduced d) refl
@@ -218,29 +213,28 @@ cursor_items reduced d n c e = go (datagram_check reduced d) refl
         (k : Check) → datagram_check reduced d ≡ k
         → (datagram_check reduced d ≡ passed) × (given n d c ≡ datagram_items d)
     go passed k =
-        let o : Opened.Items (length (datagram_items d)) start ≡ Opened.Items n c = rw k at e in
-        let count : length (datagram_items d) ≡ n = cc in
-        let first : start ≡ c = cc in
-        let counted : item_count reduced d ≡ Count.Items (length (datagram_items d)) = rw k refl in
+        let o : ◌≡◌ {A = Result (ℕ × Cursor) Refusal} (Ok (length (datagram_items d), start)) (Ok (n, c)) = rw k at e in
+        let both : ◌≡◌ {A = ℕ × Cursor} (length (datagram_items d), start) (n, c) = cc in
+        let count : length (datagram_items d) ≡ n = ap (λ (w : ℕ × Cursor). w.0) both in
+        let first : start ≡ c = ap (λ (w : ℕ × Cursor). w.1) both in
+        let counted : item_count reduced d ≡ Ok (length (datagram_items d)) = rw k refl in
         (k, ap (given n d) (sym first) ∙ cursor-in_turn reduced d (length (datagram_items d)) n counted (omega arith))
     go (refused number place) k =
-        let o : Opened.Refused (refusal number place) ≡ Opened.Items n c = rw k at e in
-        let z : ◌≡◌ {A = ℕ} 0 1 = cc in
-        absurd (omega arith)
+        let o : ◌≡◌ {A = Result (ℕ × Cursor) Refusal} (Err (refusal number place)) (Ok (n, c)) = rw k at e in
+        absurd (cc)
 
 pub cursor-refused :
-    (reduced : Bool) (d : List ℕ) (r : Refusal) → cursor_on reduced d ≡ Opened.Refused r
+    (reduced : Bool) (d : List ℕ) (r : Refusal) → cursor_on reduced d ≡ Err r
     → datagram_check reduced d ≡ refused r.number r.place
 unfolding cursor_on
 cursor-refused reduced d r e = go (datagram_check reduced d) refl
   where
     go : (k : Check) → datagram_check reduced d ≡ k → datagram_check reduced d ≡ refused r.number r.place
     go passed k =
-        let o : Opened.Items (length (datagram_items d)) start ≡ Opened.Refused r = rw k at e in
-        let z : ◌≡◌ {A = ℕ} 0 1 = cc in
-        absurd (omega arith)
+        let o : ◌≡◌ {A = Result (ℕ × Cursor) Refusal} (Ok (length (datagram_items d), start)) (Err r) = rw k at e in
+        absurd (cc)
     go (refused number place) k =
-        let o : Opened.Refused (refusal number place) ≡ Opened.Refused r = rw k at e in
+        let o : ◌≡◌ {A = Result (ℕ × Cursor) Refusal} (Err (refusal number place)) (Err r) = rw k at e in
         let same : refusal number place ≡ r = cc in
         k ∙ ap (λ (s : Refusal). refused s.number s.place) same
 
@@ -253,14 +247,14 @@ module _ (t : Table) (reduced : Bool) (d : List ℕ) (origin : Origin) (at : Rea
       (r ≡ datagram_answered t reduced d origin at answers) × (after ≡ answers_after t reduced d origin at answers)
 
   pub answered-refused :
-      (r : Refusal) → cursor_on reduced d ≡ Opened.Refused r
-      → Answers (record { number = r.number; place = r.place; count = 0; table = t }) answers
+      (r : Refusal) → cursor_on reduced d ≡ Err r
+      → Answers (record { number = refusal_number r.number; place = r.place; count = 0; table = t }) answers
   unfolding datagram_answered answers_after
   answered-refused r e = rw (cursor-refused reduced d r e) (refl, refl)
 
   module _
       (n : ℕ) (c : Cursor) (count : ℕ)
-      (e : cursor_on reduced d ≡ Opened.Items n c) (h : count ≡ call_count (given n d c)) where
+      (e : cursor_on reduced d ≡ Ok (n, c)) (h : count ≡ call_count (given n d c)) where
     -- the calls as they were counted and made, and as the definitions have them
     abbrev calls_given : List Call
     calls_given = calls_in origin at (given n d c)

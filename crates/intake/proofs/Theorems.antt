@@ -1,6 +1,7 @@
 -- What a caller may rely on, beyond the call's own contract: how long a list is long enough, that demand 3 reaches the
 -- table that a datagram or an item of it leaves, and what reduced size changes (E2).
 use Prim.Native.Nat.{ℕ, ◌+◌, ◌≤◌}
+use Rattle.std.specs.Prelude.{Ok}
 use mathlib.Core.Path.{◌≡◌, refl, ap}
 use mathlib.Core.Bool.{Bool, true, false}
 use mathlib.Core.List.{List, [], ◌∷◌, ◌++◌}
@@ -12,8 +13,8 @@ use Rattle.idms.specs.declared.Item.{Item}
 use Rattle.idms.specs.declared.Placed.{Placed}
 use Rattle.origin.specs.declared.Origin.{Origin}
 use Rattle.register.specs.declared.Reading.{Reading}
-use Rattle.datagram.specs.declared.Count.{Count}
-use Rattle.register.specs.Register.{Opening, Call, answer, answers}
+use Rattle.register.specs.declared.Opening.{Opening}
+use Rattle.register.specs.Register.{Call, answer, answers}
 use Rattle.register.specs.Tallies.{Members, records_of, members_after_all}
 use Rattle.register.specs.Promise.{AllInRange}
 use Rattle.register.proofs.Tallies.{rows_after-all}
@@ -25,7 +26,9 @@ use Rattle.table.specs.History.{answers_from, table_from, Reached}
 use Rattle.table.proofs.Agreement.Theorem.{reached_further, reached-answers}
 use Rattle.packet.specs.Bytes.{AreBytes}
 use Rattle.packet.specs.Report.{report_at}
-use Rattle.refusals.specs.Refusals.{bad_first}
+use Rattle.refusals.specs.declared.RefusalNumber.{RefusalNumber}
+use Rattle.refusals.specs.Refusals.{bad_first, refusal_number}
+use Rattle.std.proofs.lemmas.Grind.{common_steps}
 use Rattle.packet.specs.Checks.{Check, passed, refused}
 use Rattle.packet.proofs.Laws.Checks.{Refuses}
 use Rattle.datagram.specs.Datagram.{datagram_check, datagram_items}
@@ -54,7 +57,7 @@ calls_of_items (x ∷ xs) = omega (arith, calls_of_item_bound x.item, calls_of_i
 
 -- As many numbers as the datagram has items are enough, and so are 512.
 pub enough_numbers :
-    (reduced : Bool) (d : List ℕ) (n : ℕ) (origin : Origin) (at : Reading) → item_count reduced d ≡ Count.Items n
+    (reduced : Bool) (d : List ℕ) (n : ℕ) (origin : Origin) (at : Reading) → item_count reduced d ≡ Ok n
     → (length (calls_in origin at (datagram_items d)) ≤ n) × (n ≤ 512)
 enough_numbers reduced d n origin at e =
     let bound : _ = count_bound reduced d n e in
@@ -150,11 +153,14 @@ item-reached o calls t ms here reduced d h index origin at =
 
 -- ---- reduced size
 
+first_by_number : (number : RefusalNumber) → refusal_number number ≡ bad_first → number ≡ RefusalNumber.BadFirst
+first_by_number number e = grind (arith, common_steps)
+
 module _ (t : Table) (calls : List Call) (lent : List ℕ) where
   answered_not_four :
-      (k : Check) → Refuses (λ (number place : ℕ). number ≡ bad_first → ⊥) k
+      (k : Check) → Refuses (λ (number : RefusalNumber) (place : ℕ). number ≡ RefusalNumber.BadFirst → ⊥) k
       → (answered_unless k t calls lent).number ≡ bad_first → ⊥
-  answered_not_four (refused number place) h four = h number place refl four
+  answered_not_four (refused number place) h four = h number place refl (first_by_number number four)
   answered_not_four passed h four = go (ltb (length lent) (length calls)) refl
     where
       go : (b : Bool) → ltb (length lent) (length calls) ≡ b → ⊥

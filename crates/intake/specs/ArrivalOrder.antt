@@ -6,13 +6,13 @@
 use Rattle.std.specs.Prelude.{ℕ, Bool, List, ◌++◌}
 use Rattle.origin.specs.declared.Origin.{Origin}
 use Rattle.register.specs.declared.Reading.{Reading}
-use Rattle.register.specs.Register.{Opening, Call}
+use Rattle.register.specs.declared.Opening.{Opening}
+use Rattle.register.specs.Register.{Call}
 use Rattle.register.specs.Tallies.{Members}
 use Rattle.register.specs.ArrivalOrder.{AllAccepted, AllFromDifferentSources}
 use Rattle.table.specs.declared.Table.{Table}
 use Rattle.table.specs.History.{answers_from, Reached}
 use Rattle.table.specs.ArrivalOrder.{CallResult, ResultsInEitherOrder}
-use Rattle.intake.specs.declared.DatagramAnswered.{DatagramAnswered}
 use Rattle.intake.specs.Datagrams.{datagram_answered, answers_after}
 use Rattle.intake.specs.Reaching.{datagram_calls}
 

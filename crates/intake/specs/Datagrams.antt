@@ -3,7 +3,7 @@
 use Rattle.std.specs.Prelude.{ℕ, Bool, cond, List, [], ◌∷◌, ◌++◌, ltb, length}
 use Rattle.idms.specs.declared.Item.{Item}
 use Rattle.idms.specs.declared.Placed.{Placed}
-use Rattle.refusals.specs.Refusals.{short_buffer}
+use Rattle.refusals.specs.Refusals.{short_buffer, refusal_number}
 use Rattle.origin.specs.declared.Origin.{Origin}
 use Rattle.packet.specs.Checks.{Check, passed, refused}
 use Rattle.datagram.specs.Datagram.{datagram_check, datagram_items}
@@ -39,7 +39,8 @@ numbers_after t calls answers = cond (ltb (length answers) (length calls)) answe
 
 abbrev pub answered_unless : Check → Table → List Call → List ℕ → DatagramAnswered
 answered_unless passed t calls answers = calls_answered t calls answers
-answered_unless (refused number place) t calls answers = record { number = number; place = place; count = 0; table = t }
+answered_unless (refused number place) t calls answers =
+    record { number = refusal_number number; place = place; count = 0; table = t }
 
 abbrev pub numbers_unless : Check → Table → List Call → List ℕ → List ℕ
 numbers_unless passed t calls answers = numbers_after t calls answers

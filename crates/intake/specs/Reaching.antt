@@ -3,20 +3,22 @@
 -- To be believed besides: `calls_in` (Datagrams), `record_of` (table Intake), and what reading gives (datagram Datagram
 -- with what it uses of `packet` and `packet_checks`, rtcp Answers).
 use Rattle.std.specs.Prelude.{ℕ, ◌≤◌, ◌<◌, ◌≡◌, Bool, List, [], ◌∷◌, ◌++◌, length, drop}
-use Rattle.idms.specs.declared.Found.{Found}
+use Rattle.std.specs.Prelude.{Some, None}
+use Rattle.std.specs.Prelude.{Ok}
 use Rattle.idms.specs.declared.Item.{Item}
 use Rattle.idms.specs.declared.Report.{Report}
 use Rattle.idms.specs.declared.Settings.{Settings}
 use Rattle.origin.specs.declared.Origin.{Origin}
-use Rattle.refusals.specs.Refusals.{short_buffer}
+use Rattle.refusals.specs.declared.RefusalNumber.{RefusalNumber}
+use Rattle.refusals.specs.Refusals.{short_buffer, refusal_number}
 use Rattle.packet.specs.Checks.{passed, refused}
 use Rattle.packet.specs.Bytes.{AreBytes}
 use Rattle.datagram.specs.Datagram.{datagram_check, datagram_items}
 use Rattle.rtcp.specs.Answers.{item_of}
 use Rattle.register.specs.declared.Reading.{Reading}
-use Rattle.register.specs.Register.{Opening, Call, answer, answers}
+use Rattle.register.specs.declared.Opening.{Opening}
+use Rattle.register.specs.Register.{Call, answer, answers}
 use Rattle.register.specs.Tallies.{Members, records_of, members_after, members_after_all}
-use Rattle.table.specs.declared.Outcome.{Outcome}
 use Rattle.table.specs.declared.Table.{Table}
 use Rattle.table.specs.declared.Taken.{Taken}
 use Rattle.table.specs.Intake.{record_of, taken}
@@ -67,7 +69,9 @@ module _
     -- not refused, and the list is long enough
     pub made : datagram_check reduced d ≡ passed → length (datagram_calls d origin at) ≤ length lent → AllMade
     -- refused
-    pub unread : (number place : ℕ) → datagram_check reduced d ≡ refused number place → NoneMade number place
+    pub unread :
+        (number : RefusalNumber) (place : ℕ) → datagram_check reduced d ≡ refused number place
+        → NoneMade (refusal_number number) place
     -- the list is too short
     pub short :
         datagram_check reduced d ≡ passed → length lent < length (datagram_calls d origin at) → NoneMade short_buffer 0
@@ -88,22 +92,22 @@ module _ (o : Opening) (calls : List Call) (t : Table) (members : Members) where
     -- the table is reached by the calls before and this one
     pub reached : Reached o (calls ++ call ∷ []) result.table (members_after o members call)
     -- the outcome is the register's answer to it
-    pub outcome : result.outcome ≡ Outcome.Number (answer o (records_of members) call)
+    pub outcome : result.outcome ≡ Some (answer o (records_of members) call)
 
   -- what demand 3 says of the item that reading gives at an index: a report or a farewell is a call, and settings leave
   -- the table as it was
   pub record ItemReached (reduced : Bool) (d : List ℕ) (index : ℕ) (origin : Origin) (at : Reading) : Type 0 where
     pub report :
-        (place : ℕ) (r : Report) → item_of reduced d index ≡ Found.Item (record { place = place; item = Item.Report r })
+        (place : ℕ) (r : Report) → item_of reduced d index ≡ Ok (record { place = place; item = Item.Report r })
         → OneMade (Call.report (record_of r origin) at) (taken t (Item.Report r) origin at)
     pub farewell :
         (place source : ℕ)
-        → item_of reduced d index ≡ Found.Item (record { place = place; item = Item.Farewell source })
+        → item_of reduced d index ≡ Ok (record { place = place; item = Item.Farewell source })
         → OneMade (Call.farewell source origin) (taken t (Item.Farewell source) origin at)
     pub settings :
         (place : ℕ) (s : Settings)
-        → item_of reduced d index ≡ Found.Item (record { place = place; item = Item.Settings s })
-        → taken t (Item.Settings s) origin at ≡ record { outcome = Outcome.Passed; table = t }
+        → item_of reduced d index ≡ Ok (record { place = place; item = Item.Settings s })
+        → taken t (Item.Settings s) origin at ≡ record { outcome = None; table = t }
 
 -- from every reached table, of every datagram of bytes, whether or not reduced size was agreed, at every index
 abbrev pub EveryItem : Type 0

@@ -1,5 +1,6 @@
 -- One item's part of a datagram: whether it is a call, and which number its outcome leaves in the lent list.
 use Rattle.std.specs.Prelude.{ℕ, ◌+◌, List, [], ◌∷◌}
+use Rattle.std.specs.Prelude.{Option, Some, None}
 use Rattle.idms.specs.declared.Item.{Item}
 use Rattle.idms.specs.declared.Placed.{Placed}
 use Rattle.origin.specs.declared.Origin.{Origin}
@@ -7,7 +8,6 @@ use Rattle.register.specs.declared.Reading.{Reading}
 use Rattle.register.specs.Register.{Call}
 use Rattle.rtcp.specs.declared.cursor.Cursor.{Cursor}
 use Rattle.rtcp.specs.Cursor.{given}
-use Rattle.table.specs.declared.Outcome.{Outcome}
 use Rattle.intake.specs.Datagrams.{calls_in}
 
 -- how many calls an item is
@@ -26,6 +26,6 @@ abbrev pub given_calls : ℕ → List ℕ → Cursor → Origin → Reading → 
 given_calls n d c origin at = calls_in origin at (given n d c)
 
 -- the number that an outcome has, if it has one
-abbrev pub numbers_of : Outcome → List ℕ
-numbers_of (Outcome.Number n) = n ∷ []
-numbers_of Outcome.Passed = []
+abbrev pub numbers_of : Option ℕ → List ℕ
+numbers_of (Some n) = n ∷ []
+numbers_of None = []

@@ -11,12 +11,13 @@ ghost use Rattle.intake.specs.Steps.{calls_of_item, call_count, given_calls, num
 
 use idms::Item;
 use origin::Origin;
-use refusals::SHORT_BUFFER;
+use refusals::RefusalNumber;
 use register::Reading;
-use rtcp::{Cursor, Opened, Step, next_item, open_datagram};
-use table::{Outcome, Table};
+use rtcp::{Cursor, next_item, open_datagram};
+use table::Table;
 
-// A refusal's number and byte place, or 0 and 0; how many calls there were; and the table afterwards.
+// A refusal's number and byte place, or 0 and 0; how many calls there were; and the table afterwards: for C, which
+// has no Result.
 #[repr(C)]
 #[derive(Clone, Copy)]
 pub struct DatagramAnswered {
@@ -31,8 +32,7 @@ fn calls_of(item: Item) -> usize
     ensures { (result ≡ calls_of_item item) × (result ≤ 1) }
 {
     match item {
-        Item::Report(_) => 1,
-        Item::Farewell(_) => 1,
+        Item::Report(_) | Item::Farewell(_) => 1,
         Item::Settings(_) => 0,
     }
 }
@@ -42,37 +42,28 @@ fn count_calls(d: &[u8], n: usize, from: Cursor) -> usize
     ensures { result ≡ call_count (given n d.now from) }
 {
     let mut cursor = from;
-    let mut left = n;
     let mut calls: usize = 0;
-    while 0 < left {
-        match next_item(d, cursor) {
-            Step::End => {
-                return calls;
-            }
-            Step::Item(x, next) => {
-                let item = x.item;
-                calls += calls_of(item);
-                cursor = next;
-                left -= 1;
-            }
-        }
+    for _ in 0..n {
+        let Some((x, next)) = next_item(d, cursor) else {
+            return calls;
+        };
+        calls += calls_of(x.item);
+        cursor = next;
     }
     calls
 }
 
 // Puts an outcome's number, if it has one, at a place, and answers the place behind.
-fn put_number(answers: &mut [u64], at: usize, outcome: Outcome) -> usize
+fn put_number(answers: &mut [u64], at: usize, outcome: Option<u64>) -> usize
     requires { at + length (numbers_of outcome) ≤ length answers.old }
     ensures value { result ≡ at + length (numbers_of outcome) }
     ensures answers_after { answers.new ≡ sets answers.old at (numbers_of outcome) }
 {
-    match outcome {
-        Outcome::Number(number) => {
-            answers[at] = number;
-            at + 1
-        }
-        Outcome::Passed => at,
-    }
+    let Some(number) = outcome else {
+        return at;
+    };
+    answers[at] = number;
+    at + 1
 }
 
 // Each of the next n items into the table, and the numbers of its calls to the front of the list.
@@ -92,23 +83,15 @@ fn make_calls(
 {
     let mut table = t;
     let mut cursor = from;
-    let mut left = n;
     let mut place: usize = 0;
-    while 0 < left {
-        match next_item(d, cursor) {
-            Step::End => {
-                return table;
-            }
-            Step::Item(x, next) => {
-                let item = x.item;
-                let taken = table.intake(item, origin, at);
-                let outcome = taken.outcome;
-                place = put_number(answers, place, outcome);
-                table = taken.table;
-                cursor = next;
-                left -= 1;
-            }
-        }
+    for _ in 0..n {
+        let Some((x, next)) = next_item(d, cursor) else {
+            return table;
+        };
+        let taken = table.intake(x.item, origin, at);
+        place = put_number(answers, place, taken.outcome);
+        table = taken.table;
+        cursor = next;
     }
     table
 }
@@ -127,17 +110,17 @@ pub fn take_datagram(
     ensures answers_after { answers.new ≡ answers_after t reduced d.now origin at answers.old }
 {
     match open_datagram(d, reduced) {
-        Opened::Refused(r) => DatagramAnswered {
-            number: r.number,
+        Err(r) => DatagramAnswered {
+            number: r.number.number(),
             place: r.place as u64,
             count: 0,
             table: t,
         },
-        Opened::Items(n, cursor) => {
+        Ok((n, cursor)) => {
             let calls = count_calls(d, n, cursor);
             if answers.len() < calls {
                 return DatagramAnswered {
-                    number: SHORT_BUFFER,
+                    number: RefusalNumber::ShortBuffer.number(),
                     place: 0,
                     count: 0,
                     table: t,

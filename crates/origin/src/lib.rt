@@ -1,8 +1,8 @@
 // Where a datagram came from. The member table tells twins apart by it.
 #![tactic(auto)]
 
-ghost use Rattle.std.specs.Prelude.{◌≡◌};
-ghost use Rattle.origin.specs.Origins.{same_bytes, same_origin};
+ghost use Rattle.origin.specs.Origins.{same_origin};
+ghost use Rattle.origin.specs.Laws.{same_origin_per, same_origin_equiv};
 
 // An address of sixteen bytes and a port.
 #[repr(C)]
@@ -12,28 +12,18 @@ pub struct Origin {
     pub port: u16,
 }
 
-// Whether two addresses are equal, byte for byte.
-fn same_address(a: [u8; 16], b: [u8; 16]) -> bool
-    ensures { result ≡ same_bytes a b }
-{
-    let mut i: usize = 0;
-    while i < 16 {
-        if a[i] != b[i] {
-            return false;
-        }
-        i += 1;
+// By hand, with a derive's body: a derived `==` would promise std's comparison, and not the definition of specs/.
+impl PartialEq for Origin {
+    ghost eq = { same_origin };
+
+    ghost laws = { same_origin_per };
+
+    #[tactic(auto, using(crate::proofs::Laws::pointwise_same), unfolding(crate::specs::Origins::same_origin))]
+    fn eq(&self, other: &Origin) -> bool {
+        self.address == other.address && self.port == other.port
     }
-    true
 }
 
-// Whether two origins are equal.
-pub fn same_origin(a: Origin, b: Origin) -> bool
-    ensures { result ≡ same_origin a b }
-{
-    let x = a.address;
-    let y = b.address;
-    if !same_address(x, y) {
-        return false;
-    }
-    a.port == b.port
+impl Eq for Origin {
+    ghost laws = { same_origin_equiv };
 }

@@ -1,5 +1,7 @@
 -- The numbers and places that a packet and a block are refused with (document 01, "Refusal numbers").
 use Prim.Native.Nat.{ℕ, ◌≤◌}
+use Rattle.refusals.specs.declared.RefusalNumber.{RefusalNumber}
+use Rattle.refusals.specs.Refusals.{refusal_number}
 use mathlib.Core.Path.{◌≡◌, refl}
 use mathlib.Core.List.{List}
 use mathlib.Core.Bool.{Bool}
@@ -10,12 +12,17 @@ use Rattle.packet.proofs.Laws.Checks.{Refuses}
 use Rattle.packet.proofs.Laws.Packet.{head_refuses}
 use Rattle.packet.proofs.Laws.Blocks.{block_refuses}
 
+-- a refusal's number is one of these, and its place is a packet's or a block's start
+abbrev pub Numbered : ℕ → ℕ → ℕ → RefusalNumber → ℕ → Type 0
+Numbered least most start number place =
+    (least ≤ refusal_number number) × (refusal_number number ≤ most) × (place ≡ start)
+
 -- 2 to 5 with the packet's start
 pub head_numbered :
     (reduced : Bool) (d : List ℕ) (p : ℕ)
-    → Refuses (λ (number place : ℕ). (2 ≤ number) × (number ≤ 5) × (place ≡ p)) (head_check reduced d p)
+    → Refuses (Numbered 2 5 p) (head_check reduced d p)
 head_numbered reduced d p =
-    head_refuses (λ (number place : ℕ). (2 ≤ number) × (number ≤ 5) × (place ≡ p)) reduced d p
+    head_refuses (Numbered 2 5 p) reduced d p
     (omega arith, omega arith, refl)
     (omega arith, omega arith, refl)
     (omega arith, omega arith, refl)
@@ -24,8 +31,8 @@ head_numbered reduced d p =
 -- 6 or 7 with the block's start
 pub block_numbered :
     (d : List ℕ) (stop at : ℕ)
-    → Refuses (λ (number place : ℕ). (6 ≤ number) × (number ≤ 7) × (place ≡ at)) (block_check d stop at)
+    → Refuses (Numbered 6 7 at) (block_check d stop at)
 block_numbered d stop at =
-    block_refuses (λ (number place : ℕ). (6 ≤ number) × (number ≤ 7) × (place ≡ at)) d stop at
+    block_refuses (Numbered 6 7 at) d stop at
     (omega arith, omega arith, refl)
     (omega arith, omega arith, refl)

@@ -6,7 +6,7 @@
 --     |V=2|P|  count  |     type      |   length in words less one    |
 --     +-+-+-+-+-+-+-+-+-+-+-+-+-+-+-+-+-+-+-+-+-+-+-+-+-+-+-+-+-+-+-+-+
 use Rattle.std.specs.Prelude.{ℕ, ◌+◌, ◌-◌, ◌*◌, ◌/◌, ◌%◌, ◌^◌, List, Bool, not, cond, ◌&&◌, ◌||◌, length, ltb, eqb}
-use Rattle.refusals.specs.Refusals.{bad_packet, bad_padding, bad_first, short_content}
+use Rattle.refusals.specs.declared.RefusalNumber.{RefusalNumber}
 use Rattle.packet_checks.specs.declared.kind.PacketType.{PacketType}
 use Rattle.packet_checks.specs.Header.{padding_is_misplaced, padding_count_is_bad, kind_of, first_is_bad, content_is_short}
 use Rattle.packet.specs.Checks.{Check, passed, refuse_if}
@@ -48,9 +48,9 @@ kind d p = kind_of (packet_type d p) (count d p)
 -- checks 2, 3, 4 and 5 of one packet, in that order
 unfoldable pub head_check : Bool → List ℕ → ℕ → Check
 head_check reduced d p =
-    refuse_if (not (eqb (version d p) 2)) bad_packet p
-    (refuse_if (ltb (length d) (p + size d p)) bad_packet p
-    (refuse_if (padding_is_bad d p) bad_padding p
-    (refuse_if (first_is_bad reduced p (kind d p)) bad_first p
-    (refuse_if (content_is_short (kind d p) (content d p)) short_content p
+    refuse_if (not (eqb (version d p) 2)) RefusalNumber.BadPacket p
+    (refuse_if (ltb (length d) (p + size d p)) RefusalNumber.BadPacket p
+    (refuse_if (padding_is_bad d p) RefusalNumber.BadPadding p
+    (refuse_if (first_is_bad reduced p (kind d p)) RefusalNumber.BadFirst p
+    (refuse_if (content_is_short (kind d p) (content d p)) RefusalNumber.ShortContent p
     passed))))

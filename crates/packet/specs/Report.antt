@@ -19,10 +19,10 @@
 --     |                  packet presented NTP timestamp               |
 --     +-+-+-+-+-+-+-+-+-+-+-+-+-+-+-+-+-+-+-+-+-+-+-+-+-+-+-+-+-+-+-+-+
 use Rattle.std.specs.Prelude.{ℕ, ◌+◌, ◌*◌, ◌/◌, ◌%◌, ◌^◌, List, [], ◌∷◌, Bool, cond, ◌&&◌, ◌||◌, length, ltb, eqb}
+use Rattle.refusals.specs.declared.RefusalNumber.{RefusalNumber}
 use Rattle.idms.specs.declared.Report.{Report}
 use Rattle.idms.specs.declared.Item.{Item}
 use Rattle.idms.specs.declared.Placed.{Placed}
-use Rattle.refusals.specs.Refusals.{block_past_end, bad_block_length}
 use Rattle.packet_checks.specs.IdmsBlock.{idms_length_is_bad, role_reports, presented_if}
 use Rattle.packet.specs.Checks.{Check, passed, refuse_if}
 use Rattle.packet.specs.Bytes.{byte, be16, be32, be64}
@@ -42,8 +42,8 @@ block_size d at = 4 * (block_length d at + 1)
 -- one that does not. A block of type 12 is checked whatever its role.
 unfoldable pub block_check : List ℕ → ℕ → ℕ → Check
 block_check d stop at =
-    refuse_if (ltb (length d) stop || ltb stop (at + block_size d at)) block_past_end at
-    (refuse_if (eqb (block_type d at) 12 && idms_length_is_bad (block_length d at)) bad_block_length at
+    refuse_if (ltb (length d) stop || ltb stop (at + block_size d at)) RefusalNumber.BlockPastEnd at
+    (refuse_if (eqb (block_type d at) 12 && idms_length_is_bad (block_length d at)) RefusalNumber.BadBlockLength at
     passed)
 
 abbrev pub role : List ℕ → ℕ → ℕ

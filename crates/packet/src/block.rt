@@ -3,50 +3,41 @@ ghost use Rattle.std.specs.Prelude.{◌≡◌, ◌+◌, ◌≤◌, length};
 ghost use Rattle.packet.specs.Report.{report_at};
 ghost use Rattle.packet.specs.Answers.{block_is, block_item, report_is};
 
-use crate::bytes::{read16, read32, read64, saturating_sub};
+use crate::bytes::{read16, read32, read64};
 use idms::Report;
 use packet_checks::{Block, idms_block, presented};
-use refusals::BLOCK_PAST_END;
+use refusals::RefusalNumber;
 
-// The fields of a report, or that the datagram does not have its 32 bytes.
-#[derive(Clone, Copy)]
-pub enum BlockReport {
-    Fields(Report),
-    Outside,
-}
-
-// What a block gives: its report, nothing, with the bytes to step over, or the number of a refusal.
+// What a block gives: its report, or nothing, with the bytes to step over.
 #[derive(Clone, Copy)]
 pub enum BlockItem {
     Report(Report),
     Skipped(usize),
-    Refused(u64),
 }
 
 // Checks 6 and 7 at a block, by its type. The two cases stay apart: where every block of type 12 is one branch, the
 // next place does not wait for the length that was read.
-pub fn block_at(d: &[u8], at: usize, stop: usize) -> Block
+#[tactic(auto, unfolding(crate::specs::Answers::block_is, crate::specs::Report::block_check))]
+pub fn block_at(d: &[u8], at: usize, stop: usize) -> Result<Block, RefusalNumber>
     ensures { result ≡ block_is d.now stop at }
 {
-    if d.len() < stop {
-        return Block::Refused(BLOCK_PAST_END);
+    if d.len() < stop || stop.saturating_sub(at) < 4 {
+        return Err(RefusalNumber::BlockPastEnd);
     }
-    if saturating_sub(stop, at) < 4 {
-        return Block::Refused(BLOCK_PAST_END);
-    }
-    let words = read16(d, at + 2);
+    let words = usize::from(read16(d, at + 2));
     let bytes = 4 * (words + 1);
     if stop < at + bytes {
-        return Block::Refused(BLOCK_PAST_END);
+        return Err(RefusalNumber::BlockPastEnd);
     }
     let kind = d[at];
     match kind {
         12 => idms_block(words, d[at + 1] / 16),
-        0..=11 | 13..=255 => Block::Skipped(bytes),
+        0..=11 | 13..=255 => Ok(Block::Skipped(bytes)),
     }
 }
 
 // The report in the block at a place.
+#[tactic(auto, unfolding(crate::specs::Report::report_at))]
 fn read_report(d: &[u8], sender: u32, at: usize) -> Report
     requires { at + 32 ≤ length d.now }
     ensures { result ≡ report_at d.now sender at }
@@ -64,24 +55,25 @@ fn read_report(d: &[u8], sender: u32, at: usize) -> Report
     }
 }
 
-// The report at a place.
-pub fn report_at(d: &[u8], sender: u32, at: usize) -> BlockReport
+// The report at a place, where the datagram has its 32 bytes.
+#[tactic(auto, unfolding(crate::specs::Answers::report_is))]
+pub fn report_at(d: &[u8], sender: u32, at: usize) -> Option<Report>
     ensures { result ≡ report_is d.now sender at }
 {
-    if saturating_sub(d.len(), at) < 32 {
-        return BlockReport::Outside;
+    if d.len().saturating_sub(at) < 32 {
+        return None;
     }
-    BlockReport::Fields(read_report(d, sender, at))
+    Some(read_report(d, sender, at))
 }
 
 // The report in the block at a place, once checks 6 and 7 have passed and where it gives one. `block_at` and
 // `report_at` do the same in two calls, for a loop in which both are to be inlined.
-pub fn block_item(d: &[u8], sender: u32, at: usize, stop: usize) -> BlockItem
+#[tactic(auto, unfolding(crate::specs::Answers::block_item))]
+pub fn block_item(d: &[u8], sender: u32, at: usize, stop: usize) -> Result<BlockItem, RefusalNumber>
     ensures { result ≡ block_item d.now sender stop at }
 {
-    match block_at(d, at, stop) {
-        Block::Refused(number) => BlockItem::Refused(number),
-        Block::Skipped(bytes) => BlockItem::Skipped(bytes),
-        Block::Report => BlockItem::Report(read_report(d, sender, at)),
+    match block_at(d, at, stop)? {
+        Block::Skipped(bytes) => Ok(BlockItem::Skipped(bytes)),
+        Block::Report => Ok(BlockItem::Report(read_report(d, sender, at))),
     }
 }

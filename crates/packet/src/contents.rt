@@ -3,7 +3,7 @@ ghost use Rattle.std.specs.Prelude.{◌≡◌, true};
 ghost use Rattle.packet.specs.Contents.{contents, readable};
 ghost use Rattle.packet.specs.Answers.{head_of, packet_is};
 
-use crate::bytes::{read32, saturating_sub};
+use crate::bytes::read32;
 use crate::header::{Head, known_head, packet_size};
 use packet_checks::{PacketType, is_short};
 
@@ -18,11 +18,10 @@ pub enum Packet {
     Blocks(u32, usize, usize, usize),
     // Settings, which `settings_at` reads.
     Settings(usize),
-    // It does not lie in the datagram, or has less than its least content.
-    Unreadable,
 }
 
 // Takes the packet at p, which is readable, apart by its type.
+#[tactic(auto, using(crate::proofs::Laws::Contents::parts_inside))]
 fn contents_at(d: &[u8], p: usize, h: Head) -> Packet
     requires { (h ≡ head_of d.now p) × (readable d.now p ≡ true) }
     ensures { result ≡ contents d.now p }
@@ -30,30 +29,30 @@ fn contents_at(d: &[u8], p: usize, h: Head) -> Packet
     let kind = h.kind;
     let next = p + h.bytes;
     match kind {
-        PacketType::Sr(_) => Packet::Unread(next),
-        PacketType::Rr(_) => Packet::Unread(next),
+        PacketType::Sr(_) | PacketType::Rr(_) | PacketType::Other => Packet::Unread(next),
         PacketType::Bye(least) => Packet::Sources(p + 4, p + least, next),
         PacketType::Xr(_) => Packet::Blocks(read32(d, p + 4), p + 8, p + h.content, next),
         PacketType::Settings(_) => Packet::Settings(next),
-        PacketType::Other => Packet::Unread(next),
     }
 }
 
-// What the packet at p holds. Of its checks only those are made that reading needs.
-pub fn packet_at(d: &[u8], p: usize) -> Packet
+// What the packet at p holds, where it lies in the datagram and has its least content. Of its checks only those are
+// made that reading needs.
+#[tactic(auto, unfolding(crate::specs::Answers::packet_is, crate::specs::Contents::readable))]
+pub fn packet_at(d: &[u8], p: usize) -> Option<Packet>
     ensures { result ≡ packet_is d.now p }
 {
-    if saturating_sub(d.len(), p) < 4 {
-        return Packet::Unreadable;
+    if d.len().saturating_sub(p) < 4 {
+        return None;
     }
     let bytes = packet_size(d, p);
     if d.len() < p + bytes {
-        return Packet::Unreadable;
+        return None;
     }
     let h = known_head(d, p, bytes);
     let kind = h.kind;
     if is_short(kind, h.content) {
-        return Packet::Unreadable;
+        return None;
     }
-    contents_at(d, p, h)
+    Some(contents_at(d, p, h))
 }

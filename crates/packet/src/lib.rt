@@ -9,8 +9,8 @@ mod contents;
 mod header;
 mod settings;
 
-pub use block::{BlockItem, BlockReport, block_at, block_item, report_at};
-pub use bytes::{Source, source_at};
+pub use block::{BlockItem, block_at, block_item, report_at};
+pub use bytes::source_at;
 pub use contents::{Packet, packet_at};
-pub use header::{Head, PacketHead, head_at};
-pub use settings::{PacketSettings, settings_at};
+pub use header::{Head, head_at};
+pub use settings::settings_at;

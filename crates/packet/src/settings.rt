@@ -3,17 +3,11 @@ ghost use Rattle.std.specs.Prelude.{◌≡◌, ◌+◌, ◌≤◌, length};
 ghost use Rattle.packet.specs.Settings.{settings_at};
 ghost use Rattle.packet.specs.Answers.{settings_is};
 
-use crate::bytes::{read32, read64, saturating_sub};
+use crate::bytes::{read32, read64};
 use idms::Settings;
 
-// The fields of a settings packet, or that the datagram does not have its 36 bytes.
-#[derive(Clone, Copy)]
-pub enum PacketSettings {
-    Fields(Settings),
-    Outside,
-}
-
 // The settings in the packet at p. The media source precedes the group here.
+#[tactic(auto, unfolding(crate::specs::Settings::settings_at))]
 fn read_settings(d: &[u8], p: usize) -> Settings
     requires { p + 36 ≤ length d.now }
     ensures { result ≡ settings_at d.now p }
@@ -28,12 +22,13 @@ fn read_settings(d: &[u8], p: usize) -> Settings
     }
 }
 
-// The settings at a place.
-pub fn settings_at(d: &[u8], p: usize) -> PacketSettings
+// The settings at a place, where the datagram has their 36 bytes.
+#[tactic(auto, unfolding(crate::specs::Answers::settings_is))]
+pub fn settings_at(d: &[u8], p: usize) -> Option<Settings>
     ensures { result ≡ settings_is d.now p }
 {
-    if saturating_sub(d.len(), p) < 36 {
-        return PacketSettings::Outside;
+    if d.len().saturating_sub(p) < 36 {
+        return None;
     }
-    PacketSettings::Fields(read_settings(d, p))
+    Some(read_settings(d, p))
 }

@@ -1,6 +1,7 @@
 -- An IDMS report block (RFC 7272 section 6), which has type 12, on plain values.
 use Rattle.std.specs.Prelude.{ℕ, Bool, not, cond, eqb}
-use Rattle.refusals.specs.Refusals.{bad_block_length}
+use Rattle.std.specs.Prelude.{Result, Ok, Err}
+use Rattle.refusals.specs.declared.RefusalNumber.{RefusalNumber}
 use Rattle.packet_checks.specs.declared.block.Block.{Block}
 
 -- check 7: its length is other than 7 words after its first, whatever its role
@@ -15,10 +16,10 @@ role_reports role = eqb role 1
 abbrev pub presented_if : Bool → ℕ → ℕ
 presented_if p field = cond p field 0
 
--- what is answered of such a block: check 7, then whether it gives an item; one that gives none is stepped over with its
--- 32 bytes
-abbrev pub idms_block : ℕ → ℕ → Block
+-- what is answered of such a block: check 7, then whether it gives an item; one that gives none is stepped over with
+-- its 32 bytes
+abbrev pub idms_block : ℕ → ℕ → Result Block RefusalNumber
 idms_block words role =
     cond (idms_length_is_bad words)
-    (Block.Refused bad_block_length)
-    (cond (role_reports role) Block.Report (Block.Skipped 32))
+    (Err RefusalNumber.BadBlockLength)
+    (cond (role_reports role) (Ok Block.Report) (Ok (Block.Skipped 32)))

@@ -15,6 +15,7 @@ pub enum PacketType {
 }
 
 // The type that a number stands for in a packet with a count.
+#[tactic(auto, unfolding(crate::specs::Header::kind_of))]
 pub fn kind_of(number: u8, count: u8) -> PacketType
     ensures { result ≡ kind_of number count }
 {
@@ -33,28 +34,15 @@ pub fn kind_of(number: u8, count: u8) -> PacketType
 fn is_opening(kind: PacketType) -> bool
     ensures { result ≡ opens kind }
 {
-    match kind {
-        PacketType::Sr(_) => true,
-        PacketType::Rr(_) => true,
-        PacketType::Bye(_) => false,
-        PacketType::Xr(_) => false,
-        PacketType::Settings(_) => false,
-        PacketType::Other => false,
-    }
+    matches!(kind, PacketType::Sr(_) | PacketType::Rr(_))
 }
 
 // Check 4: the first packet is an SR or an RR, unless reduced size was agreed.
+#[tactic(auto, unfolding(crate::specs::Header::first_is_bad))]
 pub fn is_bad_first(reduced: bool, p: usize, number: u8, count: u8) -> bool
     ensures { result ≡ first_is_bad reduced p (kind_of number count) }
 {
-    if p != 0 {
-        return false;
-    }
-    let kind = kind_of(number, count);
-    if is_opening(kind) {
-        return false;
-    }
-    !reduced
+    p == 0 && !is_opening(kind_of(number, count)) && !reduced
 }
 
 // Check 5: whether the content is too short for the type, or for settings of another length.
@@ -62,10 +50,10 @@ pub fn is_short(kind: PacketType, bytes: usize) -> bool
     ensures { result ≡ content_is_short kind bytes }
 {
     match kind {
-        PacketType::Sr(least) => bytes < least,
-        PacketType::Rr(least) => bytes < least,
-        PacketType::Bye(least) => bytes < least,
-        PacketType::Xr(least) => bytes < least,
+        PacketType::Sr(least)
+        | PacketType::Rr(least)
+        | PacketType::Bye(least)
+        | PacketType::Xr(least) => bytes < least,
         PacketType::Settings(exact) => bytes != exact,
         PacketType::Other => false,
     }

@@ -6,10 +6,7 @@ ghost use Rattle.packet_checks.specs.Header.{padding_is_misplaced, padding_count
 pub fn is_misplaced(p: usize, end: usize, length: usize) -> bool
     ensures { result ≡ padding_is_misplaced p end length }
 {
-    if p == 0 {
-        return true;
-    }
-    end != length
+    p == 0 || end != length
 }
 
 // Check 3: a count of padding bytes is a non-zero multiple of 4 that leaves the packet its first word. 4 is added to
@@ -17,11 +14,5 @@ pub fn is_misplaced(p: usize, end: usize, length: usize) -> bool
 pub fn is_bad_count(count: u8, bytes: usize) -> bool
     ensures { result ≡ padding_count_is_bad count bytes }
 {
-    if count == 0 {
-        return true;
-    }
-    if count % 4 != 0 {
-        return true;
-    }
-    bytes < count as usize + 4
+    count == 0 || count % 4 != 0 || bytes < count as usize + 4
 }

@@ -1,15 +1,17 @@
 -- What a call leaves in a record, and signed numbers as the code reads them.
-use mathlib.Core.Bool.{Bool, true, false}
+use mathlib.Core.Bool.{Bool, true, false, not, cond}
 use mathlib.Core.Path.{◌≡◌, refl, sym, ap, ◌∙◌}
 use lib.Dec.{eqb}
 use lib.IntN.{ℤ, ◌+ℤ◌, ◌-ℤ◌}
-use lib.Signed.{lt_z, le_z}
+use lib.Signed.{le_z}
 use mir.Facts.{to_z-of_z}
 use mir.Syntax.{w64}
 use mir.Val.{SFits, to_z, of_z}
 use borrow.Author.Tests.{eq-eqb, ne_eqb}
+use Rattle.std.specs.Int.{int_min}
+use Rattle.integers.proofs.Laws.{lt_z_not_le_z}
 use Rattle.playout.specs.declared.PlayoutClock.{PlayoutClock}
-use Rattle.playout.specs.PlayoutClock.{ClockCall, clock_answer, clock_accepted, clock_after}
+use Rattle.playout.specs.PlayoutClock.{ClockCall, clock_answer, clock_accepted, clock_after, lesser}
 
 -- ---- an accepted call, and a refused one
 
@@ -63,9 +65,6 @@ read fits = to_z-of_z {w = w64} fits
 pub again : {x z : ℤ} → x ≡ z → SFits w64 z → norm x ≡ z
 again e fits = ap norm e ∙ read fits
 
-pub lt_read : {z : ℤ} (y : ℤ) {t : Bool} → SFits w64 z → lt_z (norm z) y ≡ t → lt_z z y ≡ t
-lt_read {z} y fits e = sym (ap (λ (x : ℤ). lt_z x y) (read fits)) ∙ e
-
 pub le_read : {z y : ℤ} {t : Bool} → SFits w64 z → SFits w64 y → le_z (norm z) (norm y) ≡ t → le_z z y ≡ t
 le_read {z} {y} f g e =
     sym (ap (λ (x : ℤ). le_z x (norm y)) (read f) ∙ ap (λ (x : ℤ). le_z z x) (read g)) ∙ e
@@ -76,14 +75,10 @@ minus_read {z} {y} f g = ap (λ (x : ℤ). x -ℤ norm y) (read f) ∙ ap (λ (x
 pub plus_read : {z y : ℤ} → SFits w64 z → SFits w64 y → norm z +ℤ norm y ≡ z +ℤ y
 plus_read {z} {y} f g = ap (λ (x : ℤ). x +ℤ norm y) (read f) ∙ ap (λ (x : ℤ). z +ℤ x) (read g)
 
--- what a callee said of a number that it was passed
-pub told : (f : ℤ → Bool) {z : ℤ} {r t : Bool} → SFits w64 z → r ≡ f (norm z) → r ≡ t → f z ≡ t
-told f fits said e = sym (ap f (read fits)) ∙ sym said ∙ e
-
--- a record whose numbers are read back
-abbrev pub normed : PlayoutClock → PlayoutClock
-normed c = record { current = norm c.current; target = norm c.target; step = norm c.step }
-
-pub read_clock :
-    (c : PlayoutClock) → SFits w64 c.current → SFits w64 c.target → SFits w64 c.step → normed c ≡ c
-read_clock c f g h i = record { current = read f i; target = read g i; step = read h i }
+-- std's lesser of two is the definition's
+pub min-lesser : (a b : ℤ) → int_min a b ≡ lesser a b
+min-lesser a b = rw (lt_z_not_le_z b a) (go (le_z a b))
+  where
+    go : (t : Bool) → cond (not t) b a ≡ cond t a b
+    go true = refl
+    go false = refl

@@ -1,3 +1,4 @@
 pub mod Laws
 mod Range
 pub mod Theorems
+pub mod Lent

@@ -11,7 +11,10 @@ use mir.Syntax.{w64}
 use mir.Val.{SFits}
 use Rattle.integers.proofs.Laws.{leb-same, lt_z_not_le_z, sub_ℕ_below, sub_ℕ_above, le_z-sub_ℕ, sub_ℕ-add}
 use Rattle.playout.specs.declared.PlayoutClock.{PlayoutClock}
-use Rattle.playout.specs.PlayoutClock.{is_bad_step, is_outside, clock_checks, lesser, towards}
+use Rattle.refusals.specs.declared.RefusalNumber.TheVariants.{BadStep, OutsideRange}
+use Rattle.refusals.specs.Refusals.{answer_number}
+use Rattle.std.specs.Prelude.{Err}
+use Rattle.playout.specs.PlayoutClock.{ClockCall, is_bad_step, is_outside, clock_checks, clock_answer, lesser, towards}
 
 abbrev pub at : ℕ → ℤ
 at n = sub_ℕ n (2 ^ 57)
@@ -85,29 +88,24 @@ clock_at a g s = record { current = at a; target = at g; step = pos s }
 
 -- ---- the checks in turn
 
-pub number_step : (c : PlayoutClock) → is_bad_step c.step ≡ true → clock_checks c ≡ 26
+pub number_step : (c : PlayoutClock) → is_bad_step c.step ≡ true → clock_checks c ≡ Err BadStep
 unfolding clock_checks
 number_step c h = rw h refl
 
-pub number_current : (c : PlayoutClock) → is_bad_step c.step ≡ false → is_outside c.current ≡ true → clock_checks c ≡ 27
+pub number_current : (c : PlayoutClock) → is_bad_step c.step ≡ false → is_outside c.current ≡ true → clock_checks c ≡ Err OutsideRange
 unfolding clock_checks
 number_current c h k = rw (h, k) refl
 
 pub number-target :
     (c : PlayoutClock) → is_bad_step c.step ≡ false → is_outside c.current ≡ false → is_outside c.target ≡ true →
-    clock_checks c ≡ 27
+    clock_checks c ≡ Err OutsideRange
 unfolding clock_checks
 number-target c h k l = rw (h, k, l) refl
 
-pub number-none :
-    (c : PlayoutClock) → is_bad_step c.step ≡ false → is_outside c.current ≡ false → is_outside c.target ≡ false →
-    clock_checks c ≡ 0
-unfolding clock_checks
-number-none c h k l = rw (h, k, l) refl
-
 -- ---- a record within the range
 
-pub number_at : (a g s : ℕ) → a ≤ 2 ^ 58 → g ≤ 2 ^ 58 → 0 < s → s ≤ 2 ^ 57 → clock_checks (clock_at a g s) ≡ 0
+pub number_at : (a g s : ℕ) → a ≤ 2 ^ 58 → g ≤ 2 ^ 58 → 0 < s → s ≤ 2 ^ 57 →
+    clock_answer (clock_at a g s) ClockCall.tick ≡ 0
 unfolding clock_checks
 number_at a g s ha hg hs hm =
     rw (le-ltb s 1 (omega (arith, hs)), le-ltb (2 ^ 57) s hm, inside a ha, inside g hg) refl
@@ -126,15 +124,15 @@ pub record Taken (c : PlayoutClock) : Type 0 where
 clash : {n : ℕ} (m : ℕ) → n ≡ suc m → n ≡ 0 → ⊥
 clash m h e = omega arith
 
-pub taken : (c : PlayoutClock) → clock_checks c ≡ 0 → Taken c
+pub taken : (c : PlayoutClock) → clock_answer c ClockCall.tick ≡ 0 → Taken c
 taken c e = go (is_bad_step c.step) refl (is_outside c.current) refl (is_outside c.target) refl
   where
     go :
         (p : Bool) → is_bad_step c.step ≡ p → (q : Bool) → is_outside c.current ≡ q →
         (r : Bool) → is_outside c.target ≡ r → Taken c
-    go true h q k r l = absurd (clash 25 (number_step c h) e)
-    go false h true k r l = absurd (clash 26 (number_current c h k) e)
-    go false h false k true l = absurd (clash 26 (number-target c h k l) e)
+    go true h q k r l = absurd (clash 25 (ap answer_number (number_step c h)) e)
+    go false h true k r l = absurd (clash 26 (ap answer_number (number_current c h k)) e)
+    go false h false k true l = absurd (clash 26 (ap answer_number (number-target c h k l)) e)
     go false h false k false l =
         let x = offset_at c.current k in
         let y = offset_at c.target l in
@@ -293,7 +291,7 @@ pub towards_no : (c t s : ℤ) → le_z c t ≡ false → towards c t s ≡ c -�
 unfolding towards
 towards_no c t s e = rw e refl
 
-pub fits_towards : (c : PlayoutClock) → clock_checks c ≡ 0 → SFits w64 (towards c.current c.target c.step)
+pub fits_towards : (c : PlayoutClock) → clock_answer c ClockCall.tick ≡ 0 → SFits w64 (towards c.current c.target c.step)
 fits_towards c e =
     let k = taken c e in
     subst (λ (d : PlayoutClock). SFits w64 (towards d.current d.target d.step)) (sym k.is)
@@ -309,7 +307,7 @@ fits_lesser a b f g = go (le_z a b) refl
 fits_pos : (n : ℕ) → n ≤ 2 ^ 58 → SFits w64 (pos n)
 fits_pos n h = record { sfits = omega arith }
 
-pub fits_up : (c : PlayoutClock) → clock_checks c ≡ 0 → le_z c.current c.target ≡ true → SFits w64 (c.target -ℤ c.current)
+pub fits_up : (c : PlayoutClock) → clock_answer c ClockCall.tick ≡ 0 → le_z c.current c.target ≡ true → SFits w64 (c.target -ℤ c.current)
 fits_up c e l =
     let k = taken c e in
     let h : k.a ≤ k.g =
@@ -317,10 +315,18 @@ fits_up c e l =
     subst (λ (d : PlayoutClock). SFits w64 (d.target -ℤ d.current)) (sym k.is)
     (subst (SFits w64) (sym (minus_at k.a k.g h)) (fits_pos (k.g - k.a) (omega (arith, k.g_most))))
 
-pub fits_down : (c : PlayoutClock) → clock_checks c ≡ 0 → le_z c.current c.target ≡ false → SFits w64 (c.current -ℤ c.target)
+pub fits_down : (c : PlayoutClock) → clock_answer c ClockCall.tick ≡ 0 → le_z c.current c.target ≡ false → SFits w64 (c.current -ℤ c.target)
 fits_down c e l =
     let k = taken c e in
     let h : k.g < k.a =
     leb-false k.a k.g (sym (le_at k.a k.g) ∙ subst (λ (d : PlayoutClock). le_z d.current d.target ≡ false) k.is l) in
     subst (λ (d : PlayoutClock). SFits w64 (d.current -ℤ d.target)) (sym k.is)
     (subst (SFits w64) (sym (minus_at k.g k.a (omega arith))) (fits_pos (k.a - k.g) (omega (arith, k.a_most))))
+
+pub fits_clock :
+    (c : PlayoutClock) → clock_answer c ClockCall.tick ≡ 0 →
+    SFits w64 c.current × SFits w64 c.target × SFits w64 c.step
+fits_clock c e =
+    let k = taken c e in
+    subst (λ (d : PlayoutClock). SFits w64 d.current × SFits w64 d.target × SFits w64 d.step) (sym k.is)
+    (fits_at k.a k.a_most, fits_at k.g k.g_most, fits_pos k.s (omega (arith, k.s_most)))

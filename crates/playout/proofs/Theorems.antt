@@ -11,7 +11,9 @@ use lib.Signed.{lt_z, ◌≤ℤ◌, ◌<ℤ◌, ≤ℤ_refl}
 use native.Mathlib.Nat.{div-mul-le_self, lt-div-mul-add, mul-le-mul_right, suc-mul}
 use native.Mathlib.Omega.{arith}
 use borrow.Author.Tests.{leb-true, le-leb, eqb-true, eqb-false}
-use Rattle.refusals.specs.Refusals.{bad_step, outside_range}
+use Rattle.refusals.specs.declared.RefusalNumber.{RefusalNumber}
+use Rattle.refusals.specs.Refusals.{answer_number, bad_step, outside_range}
+use Rattle.std.specs.Prelude.{Result, Ok, Err}
 use Rattle.integers.proofs.Laws.{<ℤ-lt_z, lt_z-<ℤ, ≤ℤ-le_z, le_z-≤ℤ}
 use Rattle.playout.specs.declared.PlayoutClock.{PlayoutClock}
 use Rattle.playout.specs.PlayoutClock.{ClockCall, is_bad_step, is_outside, clock_checks, with_target}
@@ -62,12 +64,15 @@ range_test c = (said (is_outside c.current) refl, holds)
         go true e = rw e refl
         go false e = rw e ((outside_test c.target).1 h)
 
--- 26 where the first test holds, else 27 where the second does, else 0
+-- 26 where the first test holds, else 27 where the second does, else none
+abbrev first_of_two : (p q : Bool) → Result Unit RefusalNumber
+first_of_two p q = cond p (Err RefusalNumber.BadStep) (cond q (Err RefusalNumber.OutsideRange) (Ok tt))
+
 first_of_two_lem :
     {P Q : Type 0} (p q : Bool) → (p ≡ true) ↔ P → (q ≡ true) ↔ Q →
-    ((cond p bad_step (cond q outside_range 0) ≡ bad_step) ↔ P)
-    × ((cond p bad_step (cond q outside_range 0) ≡ outside_range) ↔ ((P → ⊥) × Q))
-    × ((cond p bad_step (cond q outside_range 0) ≡ 0) ↔ ((P → ⊥) × (Q → ⊥)))
+    ((answer_number (first_of_two p q) ≡ bad_step) ↔ P)
+    × ((answer_number (first_of_two p q) ≡ outside_range) ↔ ((P → ⊥) × Q))
+    × ((answer_number (first_of_two p q) ≡ 0) ↔ ((P → ⊥) × (Q → ⊥)))
 first_of_two_lem true q is-p is-q = (
   (λ e. is-p.0 refl, λ h. refl),
   (λ e. absurd (omega (arith, e)), λ h. absurd (h.0 (is-p.0 refl))),
@@ -86,14 +91,14 @@ first_of_two_lem false false is-p is-q = (
 
 checks_mean :
     (c : PlayoutClock) →
-    ((clock_checks c ≡ bad_step) ↔ BadStep c.step)
-    × ((clock_checks c ≡ outside_range) ↔ ((BadStep c.step → ⊥) × OutsideRange c))
-    × ((clock_checks c ≡ 0) ↔ ((BadStep c.step → ⊥) × (OutsideRange c → ⊥)))
+    ((answer_number (clock_checks c) ≡ bad_step) ↔ BadStep c.step)
+    × ((answer_number (clock_checks c) ≡ outside_range) ↔ ((BadStep c.step → ⊥) × OutsideRange c))
+    × ((answer_number (clock_checks c) ≡ 0) ↔ ((BadStep c.step → ⊥) × (OutsideRange c → ⊥)))
 unfolding clock_checks
 checks_mean c =
     first_of_two_lem (is_bad_step c.step) (is_outside c.current || is_outside c.target) (step_test c.step) (range_test c)
 
-answer-judged : (c : PlayoutClock) (call : ClockCall) → clock_answer c call ≡ clock_checks (judged c call)
+answer-judged : (c : PlayoutClock) (call : ClockCall) → clock_answer c call ≡ answer_number (clock_checks (judged c call))
 answer-judged c ClockCall.tick = refl
 answer-judged c (ClockCall.set target) = refl
 

@@ -1,11 +1,11 @@
 -- The playout clock of a loudspeaker (document 02, E10): its current lateness, its target and its greatest step, three
 -- whole numbers of one unit. What each call on its record answers, and the record afterwards.
-use Rattle.std.specs.Prelude.{ℕ, ◌^◌, Bool, cond, ◌||◌, List, [], ◌∷◌, eqb, ℤ, pos, neg_ℤ, ◌+ℤ◌, ◌-ℤ◌}
+use Rattle.std.specs.Prelude.{ℕ, ◌^◌, Bool, cond, ◌||◌, List, [], ◌∷◌, eqb, Result, Ok, Err, ℤ, pos, neg_ℤ, ◌+ℤ◌, ◌-ℤ◌}
 use Rattle.std.specs.Int.Signed.{lt_z, le_z}
-use Rattle.refusals.specs.Refusals.{bad_step, outside_range}
+use Rattle.std.specs.Result.{result_and}
+use Rattle.refusals.specs.declared.RefusalNumber.{RefusalNumber}
+use Rattle.refusals.specs.Refusals.{answer_number}
 use Rattle.playout.specs.declared.PlayoutClock.{PlayoutClock}
-use Rattle.playout.specs.declared.Ticked.{Ticked}
-use Rattle.playout.specs.declared.TargetSet.{TargetSet}
 
 -- a tick, or a set with its target
 pub data ClockCall : Type 0 where
@@ -26,21 +26,22 @@ is_bad_step step = lt_z step (pos 1) || lt_z lateness_limit step
 abbrev pub is_outside : ℤ → Bool
 is_outside value = lt_z value (neg_ℤ lateness_limit) || lt_z lateness_limit value
 
--- 26 first, then 27: the first that applies to a record is the answer, or 0 that none does
-unfoldable pub clock_checks : PlayoutClock → ℕ
+-- 26 first, then 27: the first that applies to a record, if any does
+unfoldable pub clock_checks : PlayoutClock → Result Unit RefusalNumber
 clock_checks c =
-    cond (is_bad_step c.step) bad_step
-    (cond (is_outside c.current || is_outside c.target) outside_range
-    0)
+    cond (is_bad_step c.step) (Err RefusalNumber.BadStep)
+    (cond (is_outside c.current || is_outside c.target) (Err RefusalNumber.OutsideRange)
+    (Ok tt))
 
 -- a record with another target
 abbrev pub with_target : PlayoutClock → ℤ → PlayoutClock
 with_target c target = record { current = c.current; target = target; step = c.step }
 
--- what a call answers: a set is judged on the record that it would make, a tick on the one that it is given
+-- what a call answers, the refusal's number or 0: a set is judged on the record that it would make, a tick on the one
+-- that it is given
 abbrev pub clock_answer : PlayoutClock → ClockCall → ℕ
-clock_answer c ClockCall.tick = clock_checks c
-clock_answer c (ClockCall.set target) = clock_checks (with_target c target)
+clock_answer c ClockCall.tick = answer_number (clock_checks c)
+clock_answer c (ClockCall.set target) = answer_number (clock_checks (with_target c target))
 
 -- ---- the record afterwards
 
@@ -64,14 +65,13 @@ clock_accepted c (ClockCall.set target) = with_target c target
 unfoldable pub clock_after : PlayoutClock → ClockCall → PlayoutClock
 clock_after c call = cond (eqb (clock_answer c call) 0) (clock_accepted c call) c
 
--- ---- a call on plain numbers: its answer, and afterwards the one field that it may write
+-- ---- a call's refusal, or afterwards the one field that it may write
 
-abbrev pub ticked : PlayoutClock → Ticked
-ticked c = record { number = clock_answer c ClockCall.tick; current = (clock_after c ClockCall.tick).current }
+abbrev pub ticked : PlayoutClock → Result ℤ RefusalNumber
+ticked c = result_and (clock_checks c) (Ok (clock_after c ClockCall.tick).current)
 
-abbrev pub target_set : PlayoutClock → ℤ → TargetSet
-target_set c target =
-    record { number = clock_answer c (ClockCall.set target); target = (clock_after c (ClockCall.set target)).target }
+abbrev pub target_set : PlayoutClock → ℤ → Result ℤ RefusalNumber
+target_set c target = result_and (clock_checks (with_target c target)) (Ok (clock_after c (ClockCall.set target)).target)
 
 -- ---- any list of calls, with nothing else between: every answer, and the record afterwards
 

@@ -1,11 +1,13 @@
 -- Laws of a call that writes, by what was checked before the writer was called.
 use Prim.Native.Nat.{ℕ, ◌<◌, ◌≤◌}
+use Rattle.std.specs.Prelude.{Result}
+use Rattle.refusals.specs.declared.RefusalNumber.{RefusalNumber}
+use Rattle.refusals.specs.Refusals.{refusal_number}
 use mathlib.Core.Path.{◌≡◌, refl, ap, ◌∙◌}
 use mathlib.Core.List.{List}
 use mathlib.Core.Bool.{Bool, true, false, ◌||◌}
 use lib.Dec.{ltb}
 use borrow.Author.Tests.{lt-ltb, le-ltb}
-use Rattle.buffer.specs.declared.Written.{Written}
 use Rattle.buffer.specs.Buffer.{Message, WroteMessage}
 use Rattle.idms.specs.declared.Report.{Report}
 use Rattle.writer.specs.Messages.{report_is_unwritable, report_message}
@@ -27,22 +29,24 @@ out_by_fields : (p : ℕ) (r : Report) → p ≤ 1 → report_is_out p r ≡ rep
 out_by_fields p r h = rw (le-ltb 1 p h)
 
 module _ (m : Message) (buf : List ℕ) (count : ℕ) where
-  pub wrote_nothing : m.unwritable ≡ true → Wrote m buf count (record { number = m.number; place = 0 }) buf count
+  pub wrote_nothing :
+      m.unwritable ≡ true → Wrote m buf count (record { number = refusal_number m.number; place = 0 }) buf count
   wrote_nothing e = record { answers = rw e; leaves = rw e; counts = rw e }
 
   pub wrote :
-      (w : Written) (answer : Answer) (buf' : List ℕ) (count' : ℕ) → WroteMessage m buf w buf'
+      (w : Result ℕ RefusalNumber) (answer : Answer) (buf' : List ℕ) (count' : ℕ) → WroteMessage m buf w buf'
       → answer ≡ write_answer w → count' ≡ write_after w count
       → Wrote m buf count answer buf' count'
   wrote w answer buf' count' e a n =
       record {
         answers = a ∙ ap write_answer e.0;
         leaves = e.1;
-        counts = n ∙ ap (λ (x : Written). write_after x count) e.0;
+        counts = n ∙ ap (λ (x : Result ℕ RefusalNumber). write_after x count) e.0;
       }
 
 pub wrote-report :
-    (p : ℕ) (r : Report) (buf : List ℕ) (count : ℕ) (w : Written) (answer : Answer) (buf' : List ℕ) (count' : ℕ)
+    (p : ℕ) (r : Report) (buf : List ℕ) (count : ℕ)
+    (w : Result ℕ RefusalNumber) (answer : Answer) (buf' : List ℕ) (count' : ℕ)
     → p ≤ 1 → WroteMessage (report_message r) buf w buf'
     → answer ≡ write_answer w → count' ≡ write_after w count
     → Wrote (report_message_with_p p r) buf count answer buf' count'

@@ -4,3 +4,4 @@ pub mod SiteFile
 pub mod Following
 pub mod SettingsCheck
 pub mod Recordings
+pub mod Loudspeaker

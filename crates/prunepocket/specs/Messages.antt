@@ -1,6 +1,7 @@
 -- The fields that cross from C as plain numbers, a writer's answer, and the memory of its byte count afterwards.
 use Rattle.std.specs.Prelude.{ℕ, ◌≡◌, List, Bool, ◌||◌, ltb, eqb}
-use Rattle.buffer.specs.declared.Written.{Written}
+use Rattle.std.specs.Prelude.{Result, Ok, Err}
+use Rattle.refusals.specs.declared.RefusalNumber.{RefusalNumber}
 use Rattle.buffer.specs.Buffer.{Message, written, buffer}
 use Rattle.idms.specs.declared.Report.{Report}
 use Rattle.idms.specs.declared.Settings.{Settings}
@@ -34,13 +35,13 @@ abbrev pub report_message_with_p : ℕ → Report → Message
 report_message_with_p p r =
     record { unwritable = report_is_out p r; number = (report_message r).number; bytes = (report_message r).bytes }
 
-abbrev pub write_answer : Written → Answer
-write_answer (Written.Bytes n) = no_refusal
-write_answer (Written.Refused number) = at_place_zero number
+abbrev pub write_answer : Result ℕ RefusalNumber → Answer
+write_answer (Ok n) = no_refusal
+write_answer (Err number) = at_place_zero number
 
-abbrev pub write_after : Written → ℕ → ℕ
-write_after (Written.Bytes n) before = n
-write_after (Written.Refused number) before = before
+abbrev pub write_after : Result ℕ RefusalNumber → ℕ → ℕ
+write_after (Ok n) before = n
+write_after (Err number) before = before
 
 -- What a call that writes a message has done: its answer, the buffer afterwards, and the count's memory afterwards.
 pub record Wrote (m : Message) (buf : List ℕ) (count : ℕ) (answer : Answer) (buf' : List ℕ) (count' : ℕ) : Type 0 where

@@ -14,23 +14,25 @@ ghost use Rattle.rtcp.specs.Rows.{rows_answer, rows_after};
 ghost use Rattle.writer.specs.Messages.{settings_message};
 ghost use Rattle.prunepocket.specs.Messages.{report_of, report_message_with_p, settings_of};
 ghost use Rattle.prunepocket.specs.Messages.{write_answer, write_after, Wrote};
-ghost use Rattle.prunepocket.specs.Answers.{agreed, no_refusal, refusal_answer, count_answer, count_after};
+ghost use Rattle.prunepocket.specs.Answers.{agreed, no_refusal, at_place_zero, refusal_answer};
+ghost use Rattle.prunepocket.specs.Answers.{count_answer, count_after};
 ghost use Rattle.prunepocket.specs.Answers.{field_answer, field_after};
 
-use buffer::Written;
-use idms::{Field, Found, Refusal, Report, Settings};
-pub use loudspeaker::{prunepocket_set_target, prunepocket_target_lateness, prunepocket_tick};
+use idms::{Refusal, Report, Settings};
+pub use loudspeaker::{
+    LatenessAnswered, prunepocket_set_target, prunepocket_target_lateness, prunepocket_tick,
+};
 pub use members::{
     Followed, SettingsAnswered, prunepocket_check_settings, prunepocket_choose,
     prunepocket_count_members, prunepocket_farewell, prunepocket_member_at, prunepocket_open,
     prunepocket_report, prunepocket_report_burst, prunepocket_sweep, prunepocket_take_datagram,
 };
 pub use recordings::{RecordingAnswered, prunepocket_replay};
-use refusals::{NO_SUCH_ITEM, OUT_OF_RANGE};
-use rtcp::Count;
+use refusals::RefusalNumber;
 pub use site_file::{prunepocket_read_sync_group, prunepocket_write_sync_group};
 
-// A refusal's number and place, or 0 and 0 where there was none.
+// A refusal's number and place, or 0 and 0 where there was none. C has no Result: here, and in the other structs that it
+// is given, a number stands beside the value.
 #[repr(C)]
 #[derive(Clone, Copy)]
 pub struct Answer {
@@ -48,13 +50,24 @@ pub(crate) fn accept() -> Answer
     }
 }
 
-// A refusal as two numbers.
+// A refusal as two numbers. What answers become for C is said by functions and not by `From`, whose contract, a ghost
+// member, would be no plainer than an `ensures`.
 fn refuse(r: Refusal) -> Answer
     ensures { result ≡ refusal_answer r }
 {
     Answer {
-        number: r.number,
+        number: r.number.number(),
         place: r.place as u64,
+    }
+}
+
+// A refusal whose place is 0.
+pub(crate) fn refuse_at_zero(refused: RefusalNumber) -> Answer
+    ensures { result ≡ at_place_zero refused }
+{
+    Answer {
+        number: refused.number(),
+        place: 0,
     }
 }
 
@@ -73,8 +86,8 @@ pub fn prunepocket_count_items(datagram: &[u8], reduced_size: u32, count: &mut u
         ≡ count_after (item_count (agreed reduced_size) datagram.now) count.old) }
 {
     match rtcp::count_items(datagram, is_agreed(reduced_size)) {
-        Count::Refused(r) => refuse(r),
-        Count::Items(n) => {
+        Err(r) => refuse(r),
+        Ok(n) => {
             *count = n as u64;
             accept()
         }
@@ -95,13 +108,10 @@ pub fn prunepocket_item_field(
         ≡ field_after (item_of (agreed reduced_size) datagram.now index) field value.old) }
 {
     match rtcp::item_at(datagram, is_agreed(reduced_size), index as usize) {
-        Found::Refused(r) => refuse(r),
-        Found::Item(x) => match idms::field_at(x, field) {
-            Field::Absent => Answer {
-                number: NO_SUCH_ITEM,
-                place: 0,
-            },
-            Field::Value(v) => {
+        Err(r) => refuse(r),
+        Ok(x) => match idms::field_at(x, field) {
+            None => refuse_at_zero(RefusalNumber::NoSuchItem),
+            Some(v) => {
                 *value = v;
                 accept()
             }
@@ -124,8 +134,8 @@ pub fn prunepocket_read_items(
         count.old) }
 {
     match rtcp::read_items(datagram, is_agreed(reduced_size), rows) {
-        Count::Refused(r) => refuse(r),
-        Count::Items(items) => {
+        Err(r) => refuse(r),
+        Ok(items) => {
             *count = items as u64;
             accept()
         }
@@ -133,22 +143,22 @@ pub fn prunepocket_read_items(
 }
 
 // What a writer answered, whose place is always 0.
-pub(crate) fn answer_write(w: Written) -> Answer
+pub(crate) fn answer_write(w: Result<usize, RefusalNumber>) -> Answer
     ensures { result ≡ write_answer w }
 {
     match w {
-        Written::Bytes(_) => accept(),
-        Written::Refused(number) => Answer { number, place: 0 },
+        Ok(_) => accept(),
+        Err(refused) => refuse_at_zero(refused),
     }
 }
 
 // How many bytes were written, or what stood there before.
-pub(crate) fn bytes_written(w: Written, before: u64) -> u64
+pub(crate) fn bytes_written(w: Result<usize, RefusalNumber>, before: u64) -> u64
     ensures { result ≡ write_after w before }
 {
     match w {
-        Written::Bytes(n) => n as u64,
-        Written::Refused(_) => before,
+        Ok(n) => n as u64,
+        Err(_) => before,
     }
 }
 
@@ -170,17 +180,8 @@ pub fn prunepocket_write_report(
         bytes.old written.old result bytes.new written.new }
 {
     // Checked here, before the number is cut to 8 bits and P to one.
-    if 127 < payload_type {
-        return Answer {
-            number: OUT_OF_RANGE,
-            place: 0,
-        };
-    }
-    if 1 < p {
-        return Answer {
-            number: OUT_OF_RANGE,
-            place: 0,
-        };
+    if 127 < payload_type || 1 < p {
+        return refuse_at_zero(RefusalNumber::OutOfRange);
     }
     let r = Report {
         sender,

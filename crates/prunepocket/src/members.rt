@@ -16,7 +16,8 @@ use burst::check_burst;
 use idms::Settings;
 use intake::{DatagramAnswered, take_datagram};
 use origin::Origin;
-use register::{Choice, Reading, Record, Target, Verdict};
+use refusals::RefusalNumber;
+use register::{Opening, Reading, Record, Target};
 use table::{Answered, Place, Table};
 
 // What choosing answers: 0 and the target, or a refusal's number and a target of zeros; and the table as it was.
@@ -42,7 +43,7 @@ pub struct SettingsAnswered {
 pub fn prunepocket_open(group: u32, media: u32, rate: u32) -> Answered
     ensures { result ≡ opened (record { group = group; media = media; rate = rate }) }
 {
-    Table::open(group, media, rate)
+    Table::open(Opening { group, media, rate })
 }
 
 // A report under its origin, at the sender's reading.
@@ -62,18 +63,23 @@ pub fn prunepocket_report_burst(
     ensures { (result ≡ burst_answered t reports.now at answers.old)
         × (answers.new ≡ burst_answers_after t reports.now at answers.old) }
 {
-    let checked = check_burst(reports.len(), answers.len());
-    let mut i: usize = 0;
-    while i < checked.tried {
+    let tried = match check_burst(reports.len(), answers.len()) {
+        Ok(tried) => tried,
+        Err(refused) => {
+            return Answered {
+                number: refused.number(),
+                table: t,
+            };
+        }
+    };
+    for i in 0..tried {
         let f = t.filing(reports[i], at);
-        let place = f.place;
-        t.members[place] = f.member;
+        t.members[f.place] = f.member;
         t.held = f.held;
         answers[i] = f.number;
-        i += 1;
     }
     Answered {
-        number: checked.number,
+        number: 0,
         table: t,
     }
 }
@@ -138,18 +144,20 @@ pub(crate) fn no_target() -> Target
     }
 }
 
-// A choice as numbers alone: an enum does not pass C's boundary.
-fn followed_by(choice: Choice, t: Table) -> Followed
+// A choice as numbers alone: an enum does not pass C's boundary. As `From` of a choice with a table it would be no
+// plainer.
+#[tactic(auto, unfolding(crate::specs::Following::followed_of))]
+fn followed_by(choice: Result<Target, RefusalNumber>, t: Table) -> Followed
     ensures { result ≡ followed_of choice t }
 {
     match choice {
-        Choice::Target(x) => Followed {
+        Ok(x) => Followed {
             number: 0,
             target: x,
             table: t,
         },
-        Choice::Refused(n) => Followed {
-            number: n,
+        Err(refused) => Followed {
+            number: refused.number(),
             target: no_target(),
             table: t,
         },
@@ -161,28 +169,22 @@ pub fn prunepocket_choose(t: Table, at: Reading) -> Followed
     ensures { result ≡ followed_of (choice_of t at) t }
 {
     let chosen = t.choose(at);
-    let choice = chosen.choice;
-    let table = chosen.table;
-    followed_by(choice, table)
+    followed_by(chosen.choice, chosen.table)
 }
 
 // A verdict as numbers alone.
-fn answered_by(verdict: Verdict, t: Table) -> SettingsAnswered
+#[tactic(auto, unfolding(crate::specs::SettingsCheck::settings_answered))]
+fn answered_by(verdict: Result<bool, RefusalNumber>, t: Table) -> SettingsAnswered
     ensures { result ≡ settings_answered verdict t }
 {
     match verdict {
-        Verdict::Yes => SettingsAnswered {
+        Ok(suits) => SettingsAnswered {
             number: 0,
-            suits: 1,
+            suits: suits as u32,
             table: t,
         },
-        Verdict::No => SettingsAnswered {
-            number: 0,
-            suits: 0,
-            table: t,
-        },
-        Verdict::Refused(n) => SettingsAnswered {
-            number: n,
+        Err(refused) => SettingsAnswered {
+            number: refused.number(),
             suits: 0,
             table: t,
         },
@@ -199,7 +201,5 @@ pub fn prunepocket_check_settings(
     ensures { result ≡ settings_answered (verdict_on t s at slack) t }
 {
     let checked = t.check_settings(s, at, slack);
-    let verdict = checked.verdict;
-    let table = checked.table;
-    answered_by(verdict, table)
+    answered_by(checked.verdict, checked.table)
 }

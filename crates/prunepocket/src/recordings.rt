@@ -4,8 +4,8 @@ ghost use Rattle.replay.specs.Replay.{replayed, replayed_rows};
 ghost use Rattle.prunepocket.specs.Recordings.{choice_number, choice_target, recording_answered};
 
 use crate::members::no_target;
-use refusals::NONE_COUNTED;
-use register::{Choice, Target};
+use refusals::RefusalNumber;
+use register::Target;
 use replay::{Replayed, replay};
 
 // What a replay answers, as numbers alone: the refusal's number or 0, how many entries there are, the number that
@@ -20,40 +20,41 @@ pub struct RecordingAnswered {
 }
 
 // The number that choosing gave.
-fn choice_number(choice: Choice) -> u64
+fn choice_number(choice: Result<Target, RefusalNumber>) -> u64
     ensures { result ≡ choice_number choice }
 {
     match choice {
-        Choice::Target(_) => 0,
-        Choice::Refused(n) => n,
+        Ok(_) => 0,
+        Err(refused) => refused.number(),
     }
 }
 
 // The target, or the one that stands for none.
-fn choice_target(choice: Choice) -> Target
+fn choice_target(choice: Result<Target, RefusalNumber>) -> Target
     ensures { result ≡ choice_target choice }
 {
     match choice {
-        Choice::Target(x) => x,
-        Choice::Refused(_) => no_target(),
+        Ok(x) => x,
+        Err(_) => no_target(),
     }
 }
 
 // A replay's answer as numbers alone: an enum does not pass C's boundary.
-fn answer_replay(r: Replayed) -> RecordingAnswered
+#[tactic(auto, unfolding(crate::specs::Recordings::recording_answered))]
+fn answer_replay(r: Result<Replayed, RefusalNumber>) -> RecordingAnswered
     ensures { result ≡ recording_answered r }
 {
     match r {
-        Replayed::Entries(n, choice) => RecordingAnswered {
+        Ok(replayed) => RecordingAnswered {
             number: 0,
-            entries: n as u64,
-            choice: choice_number(choice),
-            target: choice_target(choice),
+            entries: replayed.entries as u64,
+            choice: choice_number(replayed.choice),
+            target: choice_target(replayed.choice),
         },
-        Replayed::Refused(number) => RecordingAnswered {
-            number,
+        Err(refused) => RecordingAnswered {
+            number: refused.number(),
             entries: 0,
-            choice: NONE_COUNTED,
+            choice: RefusalNumber::NoneCounted.number(),
             target: no_target(),
         },
     }

@@ -5,8 +5,7 @@ ghost use Rattle.sdp.specs.Answers.{group_in};
 ghost use Rattle.prunepocket.specs.Messages.{Wrote};
 ghost use Rattle.prunepocket.specs.SiteFile.{group_answer, group_after};
 
-use crate::{Answer, accept, answer_write, bytes_written};
-use sdp::SyncGroup;
+use crate::{Answer, accept, answer_write, bytes_written, refuse_at_zero};
 
 // Puts the group number of a line into `group`, which a refusal leaves as it was.
 pub fn prunepocket_read_sync_group(line: &[u8], group: &mut u32) -> Answer
@@ -14,8 +13,8 @@ pub fn prunepocket_read_sync_group(line: &[u8], group: &mut u32) -> Answer
         × (group.new ≡ group_after (group_in line.now) group.old) }
 {
     match sdp::read_sync_group(line) {
-        SyncGroup::Refused(number) => Answer { number, place: 0 },
-        SyncGroup::Group(n) => {
+        Err(refused) => refuse_at_zero(refused),
+        Ok(n) => {
             *group = n;
             accept()
         }

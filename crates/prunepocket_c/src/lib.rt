@@ -1,5 +1,5 @@
-// The exports for C and Rust, under the names of include/prunepocket.h. Each calls the function of its name in the library
-// `prunepocket` and promises the same.
+// The exports for C and Rust, under the names of include/prunepocket.h. Each calls the function of its name in the
+// library `prunepocket` and promises the same: they are twins of those, since C needs a function for each name.
 #![tactic(auto)]
 
 mod loudspeaker;

@@ -1,12 +1,12 @@
 // The loudspeaker's side (document 02, E10).
 ghost use Rattle.std.specs.Prelude.{◌≡◌};
 ghost use Rattle.playout.specs.PlayoutClock.{ClockCall, clock_answer, clock_after};
-ghost use Rattle.settings_target.specs.TargetLateness.{lateness_answered};
+ghost use Rattle.prunepocket.specs.Loudspeaker.{lateness_answered};
 
 use idms::Settings;
 use playout::PlayoutClock;
+use prunepocket::LatenessAnswered;
 use register::Reading;
-use settings_target::LatenessAnswered;
 
 // How late a settings packet asks a loudspeaker to play, at its own reading.
 #[unsafe(no_mangle)]

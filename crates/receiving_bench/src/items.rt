@@ -1,30 +1,36 @@
 // What the reader answers, as a line.
-use crate::forms::{ITEM_REFUSED, ITEM_REPORT, ITEMS, ITEMS_REFUSED};
-use crate::lines::{Line, numbers_line};
-use idms::Found;
-use origin::Origin;
-use rtcp::Count;
+use crate::forms::Form;
+use crate::lines::Line;
+use idms::{Item, Placed, Refusal};
 
 // How many items a datagram has.
-pub(crate) fn items_line(count: Count, origin: Origin) -> Line {
+pub(crate) fn items_line(line: Line<'_>, count: Result<usize, Refusal>) -> Line<'_> {
     match count {
-        Count::Items(n) => numbers_line(ITEMS, n as u64, 0, 0, origin),
-        Count::Refused(r) => numbers_line(ITEMS_REFUSED, r.number, r.place as u64, 0, origin),
+        Ok(n) => line.came(Form::Items, &[n as u64]),
+        Err(r) => line.came(Form::ItemsRefused, &[r.number.number(), r.place as u64]),
     }
 }
 
-// The form of an item by its kind, which is 1 to 3.
-fn item_form(kind: u64) -> usize {
-    ITEM_REPORT + (kind % 4) as usize - 1
+// The form and the source of an item.
+fn shown(item: Item) -> (Form, u32) {
+    match item {
+        Item::Report(r) => (Form::ItemReport, r.sender),
+        Item::Settings(s) => (Form::ItemSettings, s.sender),
+        Item::Farewell(source) => (Form::ItemFarewell, source),
+    }
 }
 
-// The item at an index.
-pub(crate) fn item_line(index: u64, found: Found, origin: Origin) -> Line {
+// The item at the index that a line has.
+pub(crate) fn item_line(line: Line<'_>, found: Result<Placed, Refusal>) -> Line<'_> {
+    let index = line.values[0];
     match found {
-        Found::Item(p) => {
-            let row = idms::row(p);
-            numbers_line(item_form(row[0]), index, row[2], 0, origin)
+        Ok(placed) => {
+            let (form, source) = shown(placed.item);
+            line.came(form, &[index, u64::from(source)])
         }
-        Found::Refused(r) => numbers_line(ITEM_REFUSED, index, r.number, r.place as u64, origin),
+        Err(r) => line.came(
+            Form::ItemRefused,
+            &[index, r.number.number(), r.place as u64],
+        ),
     }
 }

@@ -1,191 +1,160 @@
 // The steps that look at the table, or at what a writer writes. Each gives its line with the answer that came.
-use crate::datagrams::{other_report, other_settings};
-use crate::forms::{
-    AGE, CHOOSE, CHOOSE_REFUSED, DELAY, LATENESS, MEMBERS, PLACE, PLACE_FREE, TALLY, TALLY_NONE,
-    UNCHANGED, WRITE_REPORT,
-};
-use crate::lines::{Line, line_of, numbers_line, same_line, value, value32};
-use crate::measures::{delay_of, lateness, target_of};
+use crate::datagrams::{are_other_settings, is_other_report};
+use crate::forms::Form;
+use crate::lines::Line;
+use crate::measures::{NO_TARGET, delay_of, lateness};
 use crate::scene::Scene;
 use origin::Origin;
-use register::{Choice, Reading, Record, Target};
+use refusals::RefusalNumber;
+use register::{Reading, Record, Target};
 use table::Table;
 use times::ntp_age;
 
-// No place is excepted.
-const NO_PLACE: usize = 64;
+// What choosing answers at a reading.
+pub(crate) fn choice_at(table: Table, reading: Reading) -> Result<Target, RefusalNumber> {
+    table.choose(reading).choice
+}
 
 // A target's fields. Behind them stands how far its group and media source are from the table's.
-fn target_line(x: Target, scene: Scene, origin: Origin) -> Line {
-    let group = std::num::wrapping_sub_u32(x.group, scene.group) as u64;
-    let media = std::num::wrapping_sub_u32(x.media, scene.media) as u64;
-    let source = x.source as u64;
-    let rtp = x.rtp as u64;
-    let counted = x.counted as u64;
-    line_of(
-        CHOOSE,
-        [
-            source,
+fn target_line<'a>(line: Line<'a>, x: Target, scene: Scene) -> Line<'a> {
+    let group = x.group.wrapping_sub(scene.group);
+    let media = x.media.wrapping_sub(scene.media);
+    line.came(
+        Form::Choose,
+        &[
+            u64::from(x.source),
             x.received,
-            rtp,
+            u64::from(x.rtp),
             x.presented,
-            counted,
-            group,
-            media,
-            0,
+            u64::from(x.counted),
+            u64::from(group),
+            u64::from(media),
         ],
-        origin,
     )
 }
 
-fn choice_line(choice: Choice, scene: Scene, origin: Origin) -> Line {
+fn choice_line<'a>(
+    line: Line<'a>,
+    choice: Result<Target, RefusalNumber>,
+    scene: Scene,
+) -> Line<'a> {
     match choice {
-        Choice::Target(x) => target_line(x, scene, origin),
-        Choice::Refused(n) => numbers_line(CHOOSE_REFUSED, n, 0, 0, origin),
+        Ok(x) => target_line(line, x, scene),
+        Err(refused) => line.came(Form::ChooseRefused, &[refused.number()]),
     }
 }
 
-// What choosing answers at a reading.
-pub(crate) fn choice_at(table: Table, reading: Reading) -> Choice {
-    let chosen = table.choose(reading);
-    chosen.choice
-}
-
-// The member at a place.
-fn place_line(table: Table, place: u64, origin: Origin) -> Line {
+// The member at the place that a line has.
+fn place_line(line: Line<'_>, table: Table) -> Line<'_> {
+    let place = line.values[0];
     let shown = table.member_at(place as usize);
-    let member = shown.member;
-    let x = member.record;
     if shown.held == 0 {
-        return numbers_line(PLACE_FREE, place, 0, 0, origin);
+        return line.came(Form::PlaceFree, &[place]);
     }
-    numbers_line(PLACE, place, x.source as u64, 0, x.origin)
+    let x = shown.member.record;
+    Line {
+        origin: x.origin,
+        ..line.came(Form::Place, &[place, u64::from(x.source)])
+    }
 }
 
 // The tally of the member at a place, 0 where it is free.
 fn tally_at(table: Table, place: usize) -> u64 {
-    let shown = table.member_at(place);
-    let member = shown.member;
-    member.tally as u64
+    u64::from(table.member_at(place).member.tally)
 }
 
-// The tally at a place, if a member is there.
-fn tally_line(table: Table, place: u64, origin: Origin) -> Line {
-    let shown = table.member_at(place as usize);
-    if shown.held == 0 {
-        return numbers_line(TALLY_NONE, place, 0, 0, origin);
+// The tally at the place that a line has, if a member is there.
+fn tally_line(line: Line<'_>, table: Table) -> Line<'_> {
+    let place = line.values[0];
+    if table.member_at(place as usize).held == 0 {
+        return line.came(Form::TallyNone, &[place]);
     }
-    let member = shown.member;
-    numbers_line(TALLY, place, member.tally as u64, 0, origin)
+    line.came(Form::Tally, &[place, tally_at(table, place as usize)])
 }
 
-// All that a place holds, but for the tally at one place. Where it is free, that is zeros.
-fn member_line(table: Table, place: usize, but: usize) -> Line {
+// All that a place holds. Where it is free, that is zeros.
+#[derive(Clone, Copy, PartialEq, Eq)]
+struct Held {
+    held: u32,
+    source: u32,
+    origin: Origin,
+    received: u64,
+    group: u32,
+    media: u32,
+    rtp: u32,
+    presented: u32,
+    payload_type: u8,
+    p: u8,
+    tally: u32,
+}
+
+// What a place holds, with tally 0 where its tally is excepted.
+fn held_at(table: Table, place: usize, but: Option<usize>) -> Held {
     let shown = table.member_at(place);
-    let member = shown.member;
-    let x = member.record;
+    let x = shown.member.record;
     let r = x.report;
-    let tally = if place == but { 0 } else { member.tally as u64 };
-    let flags = (r.payload_type as u64) * 256 + (r.p as u64);
-    let held = shown.held as usize;
-    let source = x.source as u64;
-    let group = r.group as u64;
-    let media = r.media as u64;
-    let rtp = r.rtp as u64;
-    let presented = r.presented as u64;
-    line_of(
-        held,
-        [
-            source, r.received, group, media, rtp, presented, flags, tally,
-        ],
-        x.origin,
-    )
-}
-
-// Whether a place of two tables does not hold the same, but for the tally at one place, as a number.
-fn other_members(a: Table, b: Table, but: usize) -> u64 {
-    for place in 0..64 {
-        if !same_line(member_line(a, place, but), member_line(b, place, but)) {
-            return 1;
-        }
+    Held {
+        held: shown.held,
+        source: x.source,
+        origin: x.origin,
+        received: r.received,
+        group: r.group,
+        media: r.media,
+        rtp: r.rtp,
+        presented: r.presented,
+        payload_type: r.payload_type,
+        p: r.p,
+        tally: if but == Some(place) {
+            0
+        } else {
+            shown.member.tally
+        },
     }
-    0
 }
 
-// Whether the choice on two tables is not the same, as a number.
-fn other_target(a: Table, b: Table, scene: Scene, origin: Origin) -> u64 {
-    let now = choice_line(choice_at(a, scene.reading), scene, origin);
-    let then = choice_line(choice_at(b, scene.reading), scene, origin);
-    !same_line(now, then) as u64
+// Whether a place of two tables does not hold the same, but for the tally at one place.
+fn are_other_members(a: Table, b: Table, but: Option<usize>) -> bool {
+    (0..64).any(|place| held_at(a, place, but) != held_at(b, place, but))
 }
 
 // What came of a step that asks for members and target as before the last call, all of them or but for a tally.
-pub(crate) fn unchanged(table: Table, earlier: Table, line: Line, scene: Scene) -> Line {
-    let form = line.form;
-    let origin = line.origin;
-    let target = other_target(table, earlier, scene, origin);
-    if form == UNCHANGED {
-        return numbers_line(
-            form,
-            other_members(table, earlier, NO_PLACE),
-            target,
-            0,
-            origin,
-        );
+pub(crate) fn unchanged<'a>(
+    table: Table,
+    earlier: Table,
+    line: Line<'a>,
+    scene: Scene,
+) -> Line<'a> {
+    let now = choice_line(line, choice_at(table, scene.reading), scene);
+    let then = choice_line(line, choice_at(earlier, scene.reading), scene);
+    let target = u64::from(now != then);
+    if line.form == Form::Unchanged {
+        let members = are_other_members(table, earlier, None);
+        return line.came(line.form, &[u64::from(members), target]);
     }
-    let place = value(line, 0);
-    let but = place as usize;
-    let members = other_members(table, earlier, but);
-    line_of(
-        form,
-        [place, tally_at(table, but), members, target, 0, 0, 0, 0],
-        origin,
-    )
-}
-
-// A number of the target.
-fn target_number(form: usize, x: Target, reading: Reading) -> u64 {
-    match form {
-        AGE => ntp_age(reading.ntp, x.received),
-        DELAY => delay_of(x),
-        _ => lateness(x, reading),
-    }
-}
-
-// Whether the writer writes other bytes than the text says: the last report's, or the target's as settings.
-fn written(line: Line, record: Record, x: Target, s: &[u8]) -> Line {
-    let mut next = line;
-    if line.form == WRITE_REPORT {
-        next.values[2] = other_report(record, s, value(line, 0) as usize);
-    } else {
-        next.values[2] = other_settings(x, value32(line, 0), s, value(line, 1) as usize);
-    }
-    next
-}
-
-// What came of a step that looks at the target.
-fn target_step(line: Line, scene: Scene, record: Record, choice: Choice, s: &[u8]) -> Line {
-    let form = line.form;
-    let origin = line.origin;
-    match form {
-        CHOOSE | CHOOSE_REFUSED => choice_line(choice, scene, origin),
-        LATENESS | AGE | DELAY => {
-            let n = target_number(form, target_of(choice), scene.reading);
-            numbers_line(form, n, 0, 0, origin)
-        }
-        _ => written(line, record, target_of(choice), s),
-    }
+    let place = line.values[0];
+    let members = are_other_members(table, earlier, Some(place as usize));
+    let tally = tally_at(table, place as usize);
+    line.came(line.form, &[place, tally, u64::from(members), target])
 }
 
 // What came of a step that calls nothing.
-pub(crate) fn look(table: Table, line: Line, scene: Scene, record: Record, s: &[u8]) -> Line {
+pub(crate) fn look<'a>(table: Table, line: Line<'a>, scene: Scene, record: Record) -> Line<'a> {
+    let choice = choice_at(table, scene.reading);
+    let target = choice.unwrap_or(NO_TARGET);
     let form = line.form;
-    let origin = line.origin;
-    let place = value(line, 0);
     match form {
-        MEMBERS => numbers_line(form, table.count_members() as u64, 0, 0, origin),
-        PLACE | PLACE_FREE => place_line(table, place, origin),
-        TALLY | TALLY_NONE => tally_line(table, place, origin),
-        _ => target_step(line, scene, record, choice_at(table, scene.reading), s),
+        Form::Members => line.came(form, &[u64::from(table.count_members())]),
+        Form::Place | Form::PlaceFree => place_line(line, table),
+        Form::Tally | Form::TallyNone => tally_line(line, table),
+        Form::Choose | Form::ChooseRefused => choice_line(line, choice, scene),
+        Form::Lateness => line.came(form, &[lateness(target, scene.reading)]),
+        Form::Age => line.came(form, &[ntp_age(scene.reading.ntp, target.received)]),
+        Form::Delay => line.came(form, &[delay_of(target)]),
+        Form::WriteReport => line.with_value(0, u64::from(is_other_report(record, line.text))),
+        // The settings of the target.
+        _ => {
+            let other = are_other_settings(target, line.value32(0), line.text);
+            line.with_value(1, u64::from(other))
+        }
     }
 }

@@ -58,9 +58,6 @@
 // character stands for itself, and none is a double quote.
 #![tactic(auto)]
 
-ghost use Rattle.std.specs.Prelude.{IfOk};
-ghost use Rattle.receiving_bench.specs.Counts.{IsPrefixLen};
-
 mod calls;
 mod datagrams;
 mod forms;
@@ -70,34 +67,26 @@ mod lines;
 mod looks;
 mod measures;
 mod numbers;
+mod phrases;
 mod print;
 mod quotes;
 mod recordings;
 mod scene;
 mod settings;
-mod text;
+mod words;
 
 use crate::calls::{Told, call, read_datagram};
-use crate::datagrams::BUFFER;
-use crate::forms::{
-    BURST, CHECK, CHECK_ITEM_REFUSED, ITEM_REFUSED, ITEMS, NO_REDUCED_SIZE, OPEN, PROSE, READ_LINE,
-    READING, REPLAY, REPLAY_NO_TARGET, REPORT, TABLE, TAKE, UNCHANGED, UNCHANGED_BUT,
-    WRITE_LINE_REFUSED, matched, print_came,
-};
+use crate::forms::{Form, matched};
 use crate::group_lines::line_step;
-use crate::lines::{Line, same_line, started};
+use crate::lines::Line;
 use crate::looks::{look, unchanged};
-use crate::numbers::NOWHERE;
-use crate::print::{
-    AS_EXPECTED, BENCH, EXPECTED, LINE, NOT_UNDERSTOOD, OF, print_number, say, say_either,
-};
-use crate::recordings::{recorded, replay_step};
-use crate::scene::{Scene, first_record, record_behind, scene_behind, usual};
+use crate::print::print_came;
+use crate::recordings::{Recording, replay_step};
+use crate::scene::{Scene, first_record, usual};
 use crate::settings::check_settings;
-use crate::text::{byte_at, forward, line_end, print_part};
-use register::Record;
+use input::read_full;
+use register::{Opening, Record};
 use std::io;
-use std::io::Read;
 use table::Table;
 
 // How many answers were compared, and how many of them were as expected.
@@ -107,190 +96,195 @@ struct Score {
     expected: u64,
 }
 
-// What a line gave: the answer that was expected, another, or none to compare.
-const RIGHT: u64 = 0;
-
-const WRONG: u64 = 1;
-
-const NOTHING: u64 = 2;
+// What the steps of the text have come to.
+#[derive(Clone, Copy)]
+struct Bench<'a> {
+    table: Table,
+    // The table before the last call. A new table is none, nor is a setting of the scene.
+    earlier: Table,
+    scene: Scene<'a>,
+    // The last report that a step told.
+    record: Record,
+    recording: Recording,
+    score: Score,
+}
 
 // A table for the papers' group, media source and rate.
 fn usual_table() -> Table {
-    let opening = Table::open(42, 7, 90000);
-    opening.table
-}
-
-fn end_line(rt: &impl Print) -> io::Result<()> {
-    rt.write_all(b"\n")
-}
-
-// The line at a place: a step where it starts with two spaces, and otherwise prose.
-fn line_at(s: &[u8], at: usize) -> Line {
-    if byte_at(s, at) == b' ' {
-        if byte_at(s, forward(at, 1)) == b' ' {
-            return matched(s, forward(at, 2));
-        }
-    }
-    started(PROSE, at)
-}
-
-// The table after a line, and the line with what came.
-fn told(
-    table: Table,
-    earlier: Table,
-    line: Line,
-    scene: Scene,
-    record: Record,
-    s: &[u8],
-    recording: &[u8; 4096],
-) -> Told {
-    let form = line.form;
-    match form {
-        TABLE => Told {
-            table: usual_table(),
-            line,
-        },
-        READING..=NO_REDUCED_SIZE | PROSE => Told { table, line },
-        UNCHANGED..=UNCHANGED_BUT => Told {
-            table,
-            line: unchanged(table, earlier, line, scene),
-        },
-        OPEN..=BURST => call(table, line, scene),
-        CHECK..=CHECK_ITEM_REFUSED => check_settings(table, line, scene, s),
-        TAKE..=ITEM_REFUSED => read_datagram(table, line, scene, s),
-        READ_LINE..=WRITE_LINE_REFUSED => Told {
-            table,
-            line: line_step(line, s),
-        },
-        REPLAY..=REPLAY_NO_TARGET => Told {
-            table,
-            line: replay_step(line, recording, scene.recorded),
-        },
-        _ => Told {
-            table,
-            line: look(table, line, scene, record, s),
-        },
-    }
-}
-
-// The table before the last call. A new table is none, nor is a setting of the scene.
-fn kept(earlier: Table, table: Table, form: usize) -> Table {
-    if form < REPORT {
-        return earlier;
-    }
-    if form < ITEMS { table } else { earlier }
-}
-
-fn not_understood(rt: &impl Print, number: usize) -> io::Result<u64> {
-    say(rt, LINE)?;
-    print_number(rt, forward(number, 1) as u64)?;
-    say(rt, NOT_UNDERSTOOD)?;
-    end_line(rt)?;
-    Ok(WRONG)
-}
-
-fn as_it_stands(rt: &impl Print, s: &[u8], at: usize) -> io::Result<u64> {
-    print_part(rt, s, at, line_end(s, at))?;
-    end_line(rt)?;
-    Ok(NOTHING)
-}
-
-// Prints what came, and whether it is what the text expects.
-fn compared(rt: &impl Print, line: Line, came: Line, s: &[u8]) -> io::Result<u64> {
-    let other = !same_line(line, came) as u64;
-    print_came(rt, came, s)?;
-    say_either(rt, other, EXPECTED)?;
-    end_line(rt)?;
-    Ok(other)
-}
-
-// Prints a line whose number counts from 0. Without an answer it is printed as it stands.
-fn printed(
-    rt: &impl Print,
-    line: Line,
-    came: Line,
-    s: &[u8],
-    at: usize,
-    number: usize,
-) -> io::Result<u64> {
-    if line.at == NOWHERE {
-        return not_understood(rt, number);
-    }
-    if line.form < OPEN || line.form == PROSE {
-        return as_it_stands(rt, s, at);
-    }
-    compared(rt, line, came, s)
-}
-
-fn scored(score: Score, outcome: u64) -> Score {
-    let compared = std::num::wrapping_add_u64(score.compared, 1);
-    match outcome {
-        RIGHT => Score {
-            compared,
-            expected: std::num::wrapping_add_u64(score.expected, 1),
-        },
-        WRONG => Score {
-            compared,
-            expected: score.expected,
-        },
-        _ => score,
-    }
-}
-
-fn ended(rt: &impl Print, score: Score) -> io::Result<()> {
-    say(rt, BENCH)?;
-    print_number(rt, score.expected)?;
-    say(rt, OF)?;
-    print_number(rt, score.compared)?;
-    say(rt, AS_EXPECTED)?;
-    end_line(rt)
-}
-
-fn run(rt: &impl Print, s: &[u8]) -> io::Result<()> {
-    let mut table = usual_table();
-    let mut earlier = table;
-    let mut scene = usual(NOWHERE, 0);
-    let mut recording = [0u8; BUFFER];
-    let mut record = first_record(0);
-    let mut score = Score {
-        compared: 0,
-        expected: 0,
+    let opening = Opening {
+        group: 42,
+        media: 7,
+        rate: 90000,
     };
-    let mut at = 0;
-    for number in 0..s.len() {
-        if s.len() <= at {
-            break;
-        }
-        let line = line_at(s, at);
-        let told = told(table, earlier, line, scene, record, s, &recording);
-        score = scored(score, printed(rt, line, told.line, s, at, number)?);
-        earlier = kept(earlier, table, line.form);
-        table = told.table;
-        record = record_behind(record, scene, line);
-        scene = scene_behind(scene, told.line);
-        scene.recorded = recorded(&mut recording, scene.recorded, line, s);
-        at = forward(line_end(s, at), 1);
-    }
-    ended(rt, score)
+    Table::open(opening).table
 }
 
-// Reads until the buffer is full or the input ends. Answers how many bytes there are.
-fn read_full(input: &mut impl Read, d: &mut [u8]) -> io::Result<usize>
-    ensures { IfOk result (λ n. IsPrefixLen n d.new) }
-{
-    let mut done = 0;
-    while done < d.len() {
-        let n = input.read(&mut d[done..])?;
-        if n == 0 {
-            break;
+impl Score {
+    // The score with an answer more.
+    fn with(self, is_expected: bool) -> Score {
+        Score {
+            compared: self.compared.wrapping_add(1),
+            expected: self.expected.wrapping_add(u64::from(is_expected)),
         }
-        done += n;
     }
-    Ok(done)
+}
+
+impl<'a> Bench<'a> {
+    fn new() -> Bench<'a> {
+        let table = usual_table();
+        Bench {
+            table,
+            earlier: table,
+            scene: usual(&[]),
+            record: first_record(0),
+            recording: Recording::EMPTY,
+            score: Score {
+                compared: 0,
+                expected: 0,
+            },
+        }
+    }
+
+    // The table after a step, and its line with what came.
+    fn told(&self, line: Line<'a>) -> Told<'a> {
+        let table = self.table;
+        let scene = self.scene;
+        match line.form {
+            Form::Table => Told {
+                table: usual_table(),
+                line,
+            },
+            Form::Reading
+            | Form::Stream
+            | Form::Datagram
+            | Form::Recording
+            | Form::Append
+            | Form::Cut
+            | Form::ReducedSize
+            | Form::NoReducedSize => Told { table, line },
+            Form::Open
+            | Form::Report
+            | Form::Farewell
+            | Form::SendReport
+            | Form::SendFarewell
+            | Form::Fill
+            | Form::Sweep
+            | Form::Burst => call(table, line, scene),
+            Form::Check(packet, _) => check_settings(table, line, packet, scene),
+            Form::Take
+            | Form::TakeNone
+            | Form::TakeRefused
+            | Form::Items
+            | Form::ItemsRefused
+            | Form::ItemReport
+            | Form::ItemSettings
+            | Form::ItemFarewell
+            | Form::ItemRefused => read_datagram(table, line, scene),
+            _ => Told {
+                table,
+                line: self.looked(line),
+            },
+        }
+    }
+
+    // The line with what came of a step that leaves the table as it is.
+    fn looked(&self, line: Line<'a>) -> Line<'a> {
+        match line.form {
+            Form::Unchanged | Form::UnchangedBut => unchanged(
+                self.table,
+                self.earlier,
+                line,
+                self.scene,
+            ),
+            Form::ReadLine | Form::ReadLineRefused | Form::WriteLine | Form::WriteLineRefused =>
+                line_step(line),
+            Form::Replay
+            | Form::ReplayRefused
+            | Form::ReplayEntry
+            | Form::ReplayTarget
+            | Form::ReplayNoTarget => replay_step(line, &self.recording),
+            _ => look(self.table, line, self.scene, self.record),
+        }
+    }
+
+    // What there is behind a step, whose answer came so.
+    fn settle(&mut self, line: Line<'a>, told: Told<'a>) {
+        if line.form.is_call() {
+            self.earlier = self.table;
+        }
+        self.table = told.table;
+        if matches!(line.form, Form::Report | Form::SendReport) {
+            self.record = self.scene.record_of(line);
+        }
+        self.scene = self.scene.behind(told.line);
+        self.recording.step(line);
+    }
+
+    // Runs a step, and prints what came and whether it is what the text expects. Without an answer the step is printed
+    // as it stands.
+    fn run_step(&mut self, rt: &impl Print, line: Line<'a>, text: &[u8]) -> io::Result<()> {
+        let told = self.told(line);
+        if line.form.sentence().is_empty() {
+            print_as_it_stands(rt, text)?;
+        } else {
+            let is_expected = told.line == line;
+            print_came(rt, told.line)?;
+            println!(rt;
+                "{}",
+                if is_expected {
+                    " (as expected)"
+                } else {
+                    " (NOT as expected)"
+                }
+            )?;
+            self.score = self.score.with(is_expected);
+        }
+        self.settle(line, told);
+        Ok(())
+    }
+
+    // Runs a line of the text, with its line feed, if it has one. Without it, it has no step's form.
+    fn run_line(
+        &mut self,
+        rt: &impl Print,
+        number: usize,
+        text: &'a [u8],
+        behind: &'a [u8],
+    ) -> io::Result<()> {
+        let Some(step) = text.strip_prefix(b"  ") else {
+            return print_as_it_stands(rt, text);
+        };
+        match step
+            .strip_suffix(b"\n")
+            .and_then(|step| matched(step, behind))
+        {
+            Some(line) => self.run_step(rt, line, text),
+            None => {
+                self.score = self.score.with(false);
+                println!(rt; "line {number}: not understood")
+            }
+        }
+    }
+}
+
+fn print_as_it_stands(rt: &impl Print, text: &[u8]) -> io::Result<()> {
+    rt.write_all(text.strip_suffix(b"\n").unwrap_or(text))?;
+    println!(rt)
+}
+
+fn run(rt: &impl Print, text: &[u8]) -> io::Result<()> {
+    let mut bench = Bench::new();
+    let mut rest = text;
+    for (number, line) in (1..).zip(text.split_inclusive(|c| *c == b'\n')) {
+        rest = rest.get(line.len()..).unwrap_or(&[]);
+        bench.run_line(rt, number, line, rest)?;
+    }
+    let Score { compared, expected } = bench.score;
+    println!(rt; "receiving bench: {expected} of {compared} as expected")
 }
 
 fn main(rt: HostRuntime) -> io::Result<()> {
     let mut text = [0u8; 65536];
-    let n = read_full(&mut rt.stdin(), &mut text)?;
+    let n = read_full(&mut rt.reader(), &mut text)?;
     run(&rt, &text[..n])
 }

@@ -1,119 +1,111 @@
-// Numbers, times and bytes as the text writes them.
+// What the text's words stand for. Each function reads one off the front of a text, and gives what is behind it.
 ghost use Rattle.std.specs.Prelude.{◌≤◌};
 
-use crate::text::{byte_at, forward};
+use origin::Origin;
+use std::str;
 
-// A place behind every text: nothing more is read there.
-pub(crate) const NOWHERE: usize = 9223372036854775808;
+// The bytes of an IPv4-mapped address in front of those of the IPv4 address.
+const MAPPED: [u8; 12] = [0, 0, 0, 0, 0, 0, 0, 0, 0, 0, 255, 255];
 
-// What a word stands for and the place behind it, which is NOWHERE where no such word stands.
-#[derive(Clone, Copy)]
-pub(crate) struct Parsed {
-    pub at: usize,
-    pub value: u64,
-}
-
-// What a digit stands for, or 16.
-fn digit(c: u8) -> u64 {
-    let decimal = std::num::wrapping_sub_u8(c, b'0');
-    if decimal < 10 {
-        return decimal as u64;
-    }
-    let letter = std::num::wrapping_sub_u8(c, b'A');
-    if letter < 6 {
-        return letter as u64 + 10;
-    }
-    16
-}
-
-// A digit more, of at most ten.
-fn grown(n: u64, base: u64, d: u64) -> u64 {
-    let low = n % 1099511627776;
-    if base == 16 {
-        return low * 16 + d % 16;
-    }
-    low * 10 + d % 16
-}
-
-// A number of 32 bits at least one digit long.
-fn checked(from: usize, at: usize, value: u64) -> Parsed {
-    if at == from || 4294967295 < value {
-        return Parsed { at: NOWHERE, value };
-    }
-    Parsed { at, value }
-}
-
-// Digits from a place on, at most so many.
-pub(crate) fn digits(s: &[u8], from: usize, base: u64, most: usize) -> Parsed {
-    let mut value = 0;
-    let mut at = from;
-    for _ in 0..most {
-        let d = digit(byte_at(s, at));
-        if base <= d {
-            break;
-        }
-        value = grown(value, base, d);
-        at = forward(at, 1);
-    }
-    checked(from, at, value)
+// A number of 32 bits in at most so many digits; a letter among them is upper-case.
+pub(crate) fn digits(text: &[u8], base: u32, most: usize) -> Option<(u32, &[u8])>
+    requires low { 2 ≤ base }
+    requires high { base ≤ 36 }
+{
+    let count = text
+        .iter()
+        .take(most)
+        .take_while(|c| (**c as char).is_digit(base) && !c.is_ascii_lowercase())
+        .count();
+    let (word, rest) = text.split_at_checked(count)?;
+    let value = u32::from_str_radix(str::from_utf8(word).ok()?, base).ok()?;
+    Some((value, rest))
 }
 
 // A number of 32 bits, decimal or hex behind 0x.
-pub(crate) fn number(s: &[u8], at: usize) -> Parsed {
-    if byte_at(s, forward(at, 1)) == b'x' {
-        if byte_at(s, at) == b'0' {
-            return digits(s, forward(at, 2), 16, 8);
-        }
+pub(crate) fn number(text: &[u8]) -> Option<(u32, &[u8])> {
+    match text.strip_prefix(b"0x") {
+        Some(hex) => digits(hex, 16, 8),
+        None => digits(text, 10, 10),
     }
-    digits(s, at, 10, 10)
-}
-
-// A number up to a limit, behind a separator.
-pub(crate) fn number_behind(s: &[u8], at: usize, separator: u8, most: u64) -> Parsed {
-    let n = number(s, forward(at, 1));
-    if byte_at(s, at) != separator || most < n.value {
-        return Parsed {
-            at: NOWHERE,
-            value: 0,
-        };
-    }
-    n
 }
 
 // A full time: seconds, or seconds and units of 2^-32 s.
-pub(crate) fn time(s: &[u8], at: usize) -> Parsed {
-    let seconds = number(s, at);
-    let high = seconds.value % 4294967296 * 4294967296;
-    if byte_at(s, seconds.at) != b'+' {
-        return Parsed {
-            at: seconds.at,
-            value: high,
+pub(crate) fn time(text: &[u8]) -> Option<(u64, &[u8])> {
+    let (seconds, rest) = number(text)?;
+    let high = u64::from(seconds) << 32;
+    let Some(rest) = rest.strip_prefix(b"+") else {
+        return Some((high, rest));
+    };
+    let (units, rest) = number(rest)?;
+    Some((high | u64::from(units), rest))
+}
+
+// A report's presented field, whose P stands above its 32 bits, or - for P 0.
+pub(crate) fn field(text: &[u8]) -> Option<(u64, &[u8])> {
+    if let Some(rest) = text.strip_prefix(b"-") {
+        return Some((0, rest));
+    }
+    let (field, rest) = number(text)?;
+    Some((1 << 32 | u64::from(field), rest))
+}
+
+// A target's presented time, or - for arrival mode.
+pub(crate) fn presented(text: &[u8]) -> Option<(u64, &[u8])> {
+    match text.strip_prefix(b"-") {
+        Some(rest) => Some((0, rest)),
+        None => time(text),
+    }
+}
+
+// One of the four numbers of an address.
+fn octet(text: &[u8]) -> Option<(u8, &[u8])> {
+    let (value, rest) = number(text)?;
+    Some((u8::try_from(value).ok()?, rest))
+}
+
+// An IPv4-mapped address.
+pub(crate) fn mapped(ipv4: [u8; 4]) -> [u8; 16] {
+    let mut address = [0; 16];
+    address[..12].copy_from_slice(&MAPPED);
+    address[12..].copy_from_slice(&ipv4);
+    address
+}
+
+fn dotted_address(text: &[u8]) -> Option<([u8; 16], &[u8])> {
+    let (a, rest) = octet(text)?;
+    let (b, rest) = octet(rest.strip_prefix(b".")?)?;
+    let (c, rest) = octet(rest.strip_prefix(b".")?)?;
+    let (d, rest) = octet(rest.strip_prefix(b".")?)?;
+    Some((mapped([a, b, c, d]), rest))
+}
+
+// An address of sixteen bytes in hex.
+fn hex_address(text: &[u8]) -> Option<([u8; 16], &[u8])> {
+    let (hex, rest) = text.split_at_checked(32)?;
+    let mut address = [0; 16];
+    for (byte, pair) in address.iter_mut().zip(hex.chunks(2)) {
+        let (value, []) = digits(pair, 16, 2)? else {
+            return None;
         };
+        *byte = u8::try_from(value).ok()?;
     }
-    let units = number(s, forward(seconds.at, 1));
-    Parsed {
-        at: units.at,
-        value: high + units.value % 4294967296,
-    }
+    Some((address, rest))
 }
 
-// How many words of eight hex digits follow one another, each behind a space.
-pub(crate) fn words(s: &[u8], from: usize) -> usize
-    ensures { result ≤ 1024 }
-{
-    for n in 0..1024 {
-        let at = forward(from, n * 9);
-        let word = digits(s, forward(at, 1), 16, 8);
-        if byte_at(s, at) != b' ' || word.at != forward(at, 9) {
-            return n;
-        }
-    }
-    1024
-}
-
-// The byte of a number among words that stand from a place on.
-pub(crate) fn byte_among(s: &[u8], from: usize, i: usize) -> u8 {
-    let word = forward(from, i % 4096 / 4 * 9);
-    let x = digits(s, forward(word, i % 4 * 2 + 1), 16, 2);
-    (x.value % 256) as u8
+// An address and a port, behind a colon. A colon 32 bytes on tells an address in hex, also in the line behind, where
+// none ends.
+pub(crate) fn origin<'a>(text: &'a [u8], line_behind: &[u8]) -> Option<(Origin, &'a [u8])> {
+    let colon = if text.len() < 32 {
+        line_behind.get(31 - text.len())
+    } else {
+        text.get(32)
+    };
+    let (address, rest) = match colon {
+        Some(b':') => hex_address(text)?,
+        _ => dotted_address(text)?,
+    };
+    let (port, rest) = number(rest.strip_prefix(b":")?)?;
+    let port = u16::try_from(port).ok()?;
+    Some((Origin { address, port }, rest))
 }

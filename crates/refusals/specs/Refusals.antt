@@ -1,6 +1,7 @@
 -- The refusal numbers (document 01, "Refusal numbers"; from 21 on, and of settings, document 02), each once for all
--- definitions. The code has them under the same names (src/lib.rt). There is no number 8.
-use Rattle.std.specs.Prelude.{ℕ}
+-- definitions. The code has them as the variants of an enum, under the same names (src/lib.rt). There is no number 8.
+use Rattle.std.specs.Prelude.{ℕ, Result, Ok, Err}
+use Rattle.refusals.specs.declared.RefusalNumber.{RefusalNumber}
 
 -- datagram length is 0, not a multiple of 4, or over 2,048
 abbrev pub bad_length : ℕ
@@ -107,3 +108,37 @@ bad_step = 26
 -- current or target of a playout clock outside of plus or minus 2^57
 abbrev pub outside_range : ℕ
 outside_range = 27
+
+-- the number that a variant of the code's enum stands for
+abbrev pub refusal_number : RefusalNumber → ℕ
+refusal_number RefusalNumber.BadLength = bad_length
+refusal_number RefusalNumber.BadPacket = bad_packet
+refusal_number RefusalNumber.BadPadding = bad_padding
+refusal_number RefusalNumber.BadFirst = bad_first
+refusal_number RefusalNumber.ShortContent = short_content
+refusal_number RefusalNumber.BlockPastEnd = block_past_end
+refusal_number RefusalNumber.BadBlockLength = bad_block_length
+refusal_number RefusalNumber.NoSuchItem = no_such_item
+refusal_number RefusalNumber.ShortBuffer = short_buffer
+refusal_number RefusalNumber.OutOfRange = out_of_range
+refusal_number RefusalNumber.BadOpening = bad_opening
+refusal_number RefusalNumber.OtherStream = other_stream
+refusal_number RefusalNumber.OtherOrigin = other_origin
+refusal_number RefusalNumber.ReceivedFar = received_far
+refusal_number RefusalNumber.RtpAged = rtp_aged
+refusal_number RefusalNumber.BadlyPresented = badly_presented
+refusal_number RefusalNumber.NoRoom = no_room
+refusal_number RefusalNumber.NoMember = no_member
+refusal_number RefusalNumber.NoneCounted = none_counted
+refusal_number RefusalNumber.BadLine = bad_line
+refusal_number RefusalNumber.BadGroup = bad_group
+refusal_number RefusalNumber.LongBurst = long_burst
+refusal_number RefusalNumber.ShortAnswers = short_answers
+refusal_number RefusalNumber.BadLayout = bad_layout
+refusal_number RefusalNumber.BadStep = bad_step
+refusal_number RefusalNumber.OutsideRange = outside_range
+
+-- what a call is answered: its refusal's number, or 0 that there is none
+abbrev pub answer_number : Result Unit RefusalNumber → ℕ
+answer_number (Ok passed) = 0
+answer_number (Err refused) = refusal_number refused

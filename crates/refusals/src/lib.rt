@@ -1,83 +1,116 @@
 // The refusal numbers of document 01 and, from 21 on and of settings, document 02, each once for all code. The
-// definitions have them under the same names (specs/Refusals.antt). There is no number 8.
+// definitions give each its number (specs/Refusals.antt). There is no number 8.
 #![tactic(auto)]
 
-// Datagram length is 0, not a multiple of 4, or over 2,048.
-pub const BAD_LENGTH: u64 = 1;
+ghost use Rattle.std.specs.Prelude.{◌≡◌};
+ghost use Rattle.refusals.specs.Refusals.{refusal_number, answer_number};
 
-// Version is not 2, or the packet runs past the end.
-pub const BAD_PACKET: u64 = 2;
+use std::fmt;
 
-// Bad padding.
-pub const BAD_PADDING: u64 = 3;
+#[derive(Clone, Copy, Debug, PartialEq, Eq)]
+pub enum RefusalNumber {
+    // Datagram length is 0, not a multiple of 4, or over 2,048.
+    BadLength = 1,
 
-// First packet is neither 200 nor 201, and reduced size was not agreed.
-pub const BAD_FIRST: u64 = 4;
+    // Version is not 2, or the packet runs past the end.
+    BadPacket = 2,
 
-// Content too short for its type; for 211, not exactly 36 bytes.
-pub const SHORT_CONTENT: u64 = 5;
+    // Bad padding.
+    BadPadding = 3,
 
-// An XR block runs past the content.
-pub const BLOCK_PAST_END: u64 = 6;
+    // First packet is neither 200 nor 201, and reduced size was not agreed.
+    BadFirst = 4,
 
-// Block type 12 with block length other than 7.
-pub const BAD_BLOCK_LENGTH: u64 = 7;
+    // Content too short for its type; for 211, not exactly 36 bytes.
+    ShortContent = 5,
 
-// Item index not below the item count.
-pub const NO_SUCH_ITEM: u64 = 9;
+    // An XR block runs past the content.
+    BlockPastEnd = 6,
 
-// Buffer shorter than the message.
-pub const SHORT_BUFFER: u64 = 10;
+    // Block type 12 with block length other than 7.
+    BadBlockLength = 7,
 
-// A field to be written is out of range; of a check of settings, a slack above 1,966,080.
-pub const OUT_OF_RANGE: u64 = 11;
+    // Item index not below the item count.
+    NoSuchItem = 9,
 
-// Group 0 or 4,294,967,295, or rate outside 1 to 192,000.
-pub const BAD_OPENING: u64 = 12;
+    // Buffer shorter than the message.
+    ShortBuffer = 10,
 
-// Report or settings packet of another group or media source.
-pub const OTHER_STREAM: u64 = 13;
+    // A field to be written is out of range; of a check of settings, a slack above 1,966,080.
+    OutOfRange = 11,
 
-// Source number held by another origin.
-pub const OTHER_ORIGIN: u64 = 14;
+    // Group 0 or 4,294,967,295, or rate outside 1 to 192,000.
+    BadOpening = 12,
 
-// Received time not within 30 s at or before the reading.
-pub const RECEIVED_FAR: u64 = 15;
+    // Report or settings packet of another group or media source.
+    OtherStream = 13,
 
-// RTP age above 60 seconds of media clock.
-pub const RTP_AGED: u64 = 16;
+    // Source number held by another origin.
+    OtherOrigin = 14,
 
-// Presentation delay over 30 s, or expanded presentation equal to 0; of a check of settings, delay over 30 s, presented 0
-// or a delay of 0; at a loudspeaker, presented not 0 and its delay over 30 s or 0.
-pub const BADLY_PRESENTED: u64 = 17;
+    // Received time not within 30 s at or before the reading.
+    ReceivedFar = 15,
 
-// New member, and 64 places held.
-pub const NO_ROOM: u64 = 18;
+    // RTP age above 60 seconds of media clock.
+    RtpAged = 16,
 
-// Farewell from a source number not held.
-pub const NO_MEMBER: u64 = 19;
+    // Presentation delay over 30 s, or expanded presentation equal to 0; of a check of settings, delay over 30 s,
+    // presented 0 or a delay of 0; at a loudspeaker, presented not 0 and its delay over 30 s or 0.
+    BadlyPresented = 17,
 
-// No fresh member to follow.
-pub const NONE_COUNTED: u64 = 20;
+    // New member, and 64 places held.
+    NoRoom = 18,
 
-// Not the line of a site file that carries a group number.
-pub const BAD_LINE: u64 = 21;
+    // Farewell from a source number not held.
+    NoMember = 19,
 
-// Such a line, but with more than ten digits or a group number above 4,294,967,294; to the writer, 4,294,967,295.
-pub const BAD_GROUP: u64 = 22;
+    // No fresh member to follow.
+    NoneCounted = 20,
 
-// More than 64 reports in a burst.
-pub const LONG_BURST: u64 = 23;
+    // Not the line of a site file that carries a group number.
+    BadLine = 21,
 
-// Answer list shorter than the burst's reports.
-pub const SHORT_ANSWERS: u64 = 24;
+    // Such a line, but with more than ten digits or a group number above 4,294,967,294; to the writer, 4,294,967,295.
+    BadGroup = 22,
 
-// A recording over 65,536 bytes, with its head or its table of contents cut short, with more than 256 entries, or with
-// bodies that do not end exactly at its end.
-pub const BAD_LAYOUT: u64 = 25;
+    // More than 64 reports in a burst.
+    LongBurst = 23,
 
-// Step of a playout clock below 1 or over 2^57.
-pub const BAD_STEP: u64 = 26;
+    // Answer list shorter than the burst's reports.
+    ShortAnswers = 24,
 
-// Current or target of a playout clock outside of plus or minus 2^57.
-pub const OUTSIDE_RANGE: u64 = 27;
+    // A recording over 65,536 bytes, with its head or its table of contents cut short, with more than 256 entries, or
+    // with bodies that do not end exactly at its end.
+    BadLayout = 25,
+
+    // Step of a playout clock below 1 or over 2^57.
+    BadStep = 26,
+
+    // Current or target of a playout clock outside of plus or minus 2^57.
+    OutsideRange = 27,
+}
+
+impl RefusalNumber {
+    // The number of the papers' table.
+    pub fn number(self) -> u64
+        ensures { result ≡ refusal_number self }
+    {
+        self as u64
+    }
+}
+
+impl fmt::Display for RefusalNumber {
+    fn fmt<W: fmt::Write>(&self, f: &mut fmt::Formatter<W>) -> fmt::Result {
+        write!(f, "{}", self.number())
+    }
+}
+
+// What a call is answered: its refusal's number, or 0 that there is none.
+pub fn answer_number(checked: Result<(), RefusalNumber>) -> u64
+    ensures { result ≡ answer_number checked }
+{
+    match checked {
+        Ok(()) => 0,
+        Err(refused) => refused.number(),
+    }
+}

@@ -4,7 +4,8 @@ use mathlib.Core.Path.{◌≡◌, refl, ap, ◌∙◌}
 use mathlib.Core.List.{List, [], ◌∷◌, ◌++◌}
 use lib.ListN.{length, drop}
 use lib.Seq.{drop_at}
-use Rattle.register.specs.Register.{Opening, Rows, Call, answer, after, answers, after_all}
+use Rattle.register.specs.declared.Opening.{Opening}
+use Rattle.register.specs.Register.{Rows, Call, answer, after, answers, after_all}
 use Rattle.register.specs.Promise.{AllInRange}
 
 -- one answer for each call

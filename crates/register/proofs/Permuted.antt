@@ -11,7 +11,8 @@ use native.Mathlib.Omega.{arith}
 use borrow.Author.Tests.{eqb-true, eq-eqb}
 use Rattle.register.specs.declared.Record.{Record}
 use Rattle.register.specs.declared.Reading.{Reading}
-use Rattle.register.specs.Register.{presents, Opening, Rows, Call, filter, any, has_number, is_held_elsewhere}
+use Rattle.register.specs.declared.Opening.{Opening}
+use Rattle.register.specs.Register.{presents, Rows, Call, filter, any, has_number, is_held_elsewhere}
 use Rattle.register.specs.Register.{has_no_room, renewed, report_checks, farewell_checks, answer, fresh_at, accepted}
 use Rattle.register.specs.Register.{after}
 use Rattle.register.specs.Choosing.{fresh, is_arrival, counted, lateness_of, precedes, precedes_all, first_of, choice}

@@ -11,13 +11,14 @@ use lib.ListN.{length}
 use lib.Signed.{◌≤ℤ◌}
 use native.Mathlib.Omega.{arith}
 use borrow.Author.Tests.{not-true}
-use Rattle.refusals.specs.Refusals.{none_counted}
+use Rattle.std.specs.Prelude.{Err}
+use Rattle.refusals.specs.declared.RefusalNumber.{RefusalNumber}
 use Rattle.times.specs.Times.{difference_mod, delay, expanded, is_badly_presented}
 use Rattle.times.proofs.Laws.{expanded_by_delay, delay_bound}
 use Rattle.register.specs.declared.Record.{Record}
 use Rattle.register.specs.declared.Reading.{Reading}
-use Rattle.register.specs.declared.Choice.{Choice}
-use Rattle.register.specs.Register.{presents, Opening, Rows, filter, any, fresh_at}
+use Rattle.register.specs.declared.Opening.{Opening}
+use Rattle.register.specs.Register.{presents, Rows, filter, any, fresh_at}
 use Rattle.register.specs.Choosing.{fresh, is_arrival, counted, lateness_of, precedes, precedes_all, target_of}
 use Rattle.register.specs.Choosing.{first_of, choice, delay_between, target_lateness, moment}
 use Rattle.register.specs.Promise.{Promised}
@@ -112,7 +113,7 @@ choice_of_lem o at rows those e =
     e
 
 pub choice-none :
-    (o : Opening) (at : Reading) (rows : Rows) → counted o at rows ≡ [] → choice o at rows ≡ Choice.Refused none_counted
+    (o : Opening) (at : Reading) (rows : Rows) → counted o at rows ≡ [] → choice o at rows ≡ Err RefusalNumber.NoneCounted
 unfolding filter
 choice-none o at rows e = choice_of_lem o at rows [] e
 

@@ -7,7 +7,8 @@ use Rattle.refusals.specs.Refusals.{other_stream, other_origin, received_far, rt
 use Rattle.times.specs.Times.{is_far, is_aged, is_badly_presented}
 use Rattle.register.specs.declared.Record.{Record}
 use Rattle.register.specs.declared.Reading.{Reading}
-use Rattle.register.specs.Register.{Opening, presents, is_other_stream, report_checks}
+use Rattle.register.specs.declared.Opening.{Opening}
+use Rattle.register.specs.Register.{presents, is_other_stream, report_checks}
 
 first_check : (t : Bool) (n m : ℕ) → 0 < n → cond t n m ≡ 0 → m ≡ 0
 first_check true n m given e = absurd (omega (arith, given, e))

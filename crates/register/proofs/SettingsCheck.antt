@@ -1,6 +1,6 @@
 -- What a verdict on a settings packet means: its number is that of the first line that applies, and its tests on the
 -- counted rows tell what the request says. Our own choice passes them, its lateness being the greatest.
-use Prim.Native.Nat.{ℕ, ◌*◌, ◌^◌, ◌≤◌, ◌<◌}
+use Prim.Native.Nat.{ℕ, ◌*◌, ◌^◌, ◌≤◌}
 use mathlib.Core.Bool.{Bool, true, false, not, cond, ◌&&◌, ◌||◌, and-eq-true_iff}
 use mathlib.Core.List.Memᴰ
 use mathlib.Core.List.{[], ◌∷◌, Memᴰ, Permᴰ}
@@ -12,7 +12,10 @@ use lib.ListN.{length}
 use lib.Signed.{le_z, lt_z, ◌≤ℤ◌, ◌<ℤ◌, lt_z_no, ≤ℤ_refl, clash_ℤ}
 use native.Mathlib.Omega.{arith}
 use borrow.Author.Tests.{not-true, eqb-true, ltb-false, eq-eqb, ne_eqb}
-use Rattle.refusals.specs.Refusals.{out_of_range, none_counted, other_stream, received_far, rtp_aged, badly_presented}
+use Rattle.std.specs.Prelude.{Result, Ok, Err}
+use Rattle.refusals.specs.Refusals.{answer_number}
+use Rattle.refusals.specs.declared.RefusalNumber.{RefusalNumber}
+use Rattle.refusals.proofs.Laws.{answer_none, number_first}
 use Rattle.idms.specs.declared.Settings.{Settings}
 use Rattle.times.specs.Times.{ntp_age, rtp_age, expanded, delay, settings_delay, is_far, is_aged, is_badly_presented}
 use Rattle.times.specs.Times.{settings_are_badly_presented}
@@ -20,9 +23,8 @@ use Rattle.times.proofs.Laws.{delay_positive}
 use Rattle.register.specs.declared.Record.{Record}
 use Rattle.register.specs.declared.Reading.{Reading}
 use Rattle.register.specs.declared.Target.{Target}
-use Rattle.register.specs.declared.Choice.{Choice}
-use Rattle.register.specs.declared.Verdict.{Verdict}
-use Rattle.register.specs.Register.{Opening, Rows, any, presents, is_other_stream}
+use Rattle.register.specs.declared.Opening.{Opening}
+use Rattle.register.specs.Register.{Rows, any, presents, is_other_stream}
 use Rattle.register.specs.Choosing.{lateness, is_arrival, counted, delay_of, lateness_of, target_of, choice}
 use Rattle.register.specs.Letter.{NoneOf, MeansBehind, Means}
 use Rattle.register.specs.SettingsCheck.{slack_limit, settings_checks, is_none_counted, settings_lateness, allowance}
@@ -40,10 +42,12 @@ use Rattle.register.proofs.Promised.{choice-none, ChosenRow, chosen_row}
 
 -- ---- refusals
 
--- a check that did not answer
-pub passed : (t : Bool) (n m : ℕ) → 0 < n → cond t n m ≡ 0 → (t ≡ false) × (m ≡ 0)
-passed true n m given e = absurd (omega (arith, given, e))
-passed false n m given e = (refl, e)
+-- a check that did not refuse
+pub passed :
+    (t : Bool) (refused : RefusalNumber) (rest : Result Unit RefusalNumber) → cond t (Err refused) rest ≡ Ok tt →
+    (t ≡ false) × (rest ≡ Ok tt)
+passed true refused rest e = grind arith
+passed false refused rest e = (refl, e)
 
 -- what is known of a packet that no check refused
 pub record PassedChecks (at : Reading) (s : Settings) (none : Bool) : Type 0 where
@@ -52,17 +56,17 @@ pub record PassedChecks (at : Reading) (s : Settings) (none : Bool) : Type 0 whe
   pub short : settings_delay s.received s.presented ≤ 30 * 2 ^ 32
 
 pub passed_checks :
-    (o : Opening) (s : Settings) (at : Reading) (slack : ℕ) (none : Bool) → settings_checks o s at slack none ≡ 0 →
+    (o : Opening) (s : Settings) (at : Reading) (slack : ℕ) (none : Bool) → settings_checks o s at slack none ≡ Ok tt →
     PassedChecks at s none
 unfolding settings_checks
 passed_checks o s at slack none e =
-    let past11 : _ = passed (ltb slack_limit slack) out_of_range _ (omega arith) e in
-    let past20 : _ = passed none none_counted _ (omega arith) past11.1 in
-    let past13 : _ = passed (is_other_stream o s.group s.media) other_stream _ (omega arith) past20.1 in
-    let past15 : _ = passed (is_far at.ntp s.received) received_far _ (omega arith) past13.1 in
-    let past16 : _ = passed (is_aged o.rate at.rtp s.rtp) rtp_aged _ (omega arith) past15.1 in
+    let past11 : _ = passed (ltb slack_limit slack) RefusalNumber.OutOfRange _ e in
+    let past20 : _ = passed none RefusalNumber.NoneCounted _ past11.1 in
+    let past13 : _ = passed (is_other_stream o s.group s.media) RefusalNumber.OtherStream _ past20.1 in
+    let past15 : _ = passed (is_far at.ntp s.received) RefusalNumber.ReceivedFar _ past13.1 in
+    let past16 : _ = passed (is_aged o.rate at.rtp s.rtp) RefusalNumber.RtpAged _ past15.1 in
     let past17 : _ =
-    passed (settings_are_badly_presented s.received s.presented) badly_presented 0 (omega arith) past16.1 in
+    passed (settings_are_badly_presented s.received s.presented) RefusalNumber.BadlyPresented _ past16.1 in
     let fair : _ =
     or_false
     (ltb (30 * 2 ^ 32) (settings_delay s.received s.presented) || eqb s.presented 0)
@@ -77,22 +81,22 @@ passed_checks o s at slack none e =
           ).0;
     }
 
--- ---- the verdict by its number
+-- ---- the verdict by its refusal
 
 pub verdict-refused :
-    (o : Opening) (at : Reading) (rows : Rows) (s : Settings) (slack number : ℕ) →
-    number ≡ settings_checks o s at slack (is_none_counted o at rows) → (number ≡ 0 → ⊥) →
-    Verdict.Refused number ≡ verdict o at rows s slack
+    (o : Opening) (at : Reading) (rows : Rows) (s : Settings) (slack : ℕ) (refused : RefusalNumber) →
+    Err refused ≡ settings_checks o s at slack (is_none_counted o at rows) →
+    Err refused ≡ verdict o at rows s slack
 unfolding verdict verdict_by
-verdict-refused o at rows s slack number e refused = rw (← e) (rw (ne_eqb number 0 refused) refl)
+verdict-refused o at rows s slack refused e = rw (← e) refl
 
 pub verdict-judged :
     (o : Opening) (at : Reading) (rows : Rows) (s : Settings) (slack : ℕ) →
-    settings_checks o s at slack (is_none_counted o at rows) ≡ 0 → (t : Bool) →
+    settings_checks o s at slack (is_none_counted o at rows) ≡ Ok tt → (t : Bool) →
     t ≡ suits (lateness_of o at) (counted o at rows) (settings_lateness o at s) (allowance o slack) →
-    cond t Verdict.Yes Verdict.No ≡ verdict o at rows s slack
+    Ok t ≡ verdict o at rows s slack
 unfolding verdict verdict_by
-verdict-judged o at rows s slack e t same = rw e (ap (λ (b : Bool). cond b Verdict.Yes Verdict.No) same)
+verdict-judged o at rows s slack e t same = rw e (ap Ok same)
 
 -- ---- whatever the order of rows
 
@@ -167,10 +171,12 @@ module _ (o : Opening) (at : Reading) (rows : Rows) (s : Settings) (slack : ℕ)
 
   -- every number means what the table of refusals says
   settings_means :
-      Means (settings_lines o at rows s slack) (settings_checks o s at slack (is_none_counted o at rows))
+      Means (settings_lines o at rows s slack)
+      (answer_number (settings_checks o s at slack (is_none_counted o at rows)))
   unfolding settings_checks NoneOf MeansBehind
   settings_means =
-      first_means (settings_lines o at rows s slack)
+      simp number_first
+      (first_means (settings_lines o at rows s slack)
       (ltb slack_limit slack
       ∷ is_none_counted o at rows
       ∷ is_other_stream o s.group s.media
@@ -193,63 +199,42 @@ module _ (o : Opening) (at : Reading) (rows : Rows) (s : Settings) (slack : ℕ)
           ),
         ),
       )
-      refl
+      refl)
 
 -- ---- the verdict's cases
 
--- which case a verdict is
-case_of : Verdict → ℕ
-case_of Verdict.Yes = 0
-case_of Verdict.No = 1
-case_of (Verdict.Refused number) = 2
-
-differ : {A : Type 0} (u v : Verdict) → u ≡ v → (case_of u ≡ case_of v → ⊥) → A
-differ u v e never = absurd (never (ap case_of e))
-
-number_by : (number : ℕ) (t : Bool) → refusal_of (verdict_by number t) ≡ number
+number_by :
+    (checked : Result Unit RefusalNumber) (t : Bool) → refusal_of (verdict_by checked t) ≡ answer_number checked
 unfolding verdict_by
-number_by number t = go (eqb number 0) refl t
-  where
-    go : (b : Bool) → eqb number 0 ≡ b → (t : Bool) → refusal_of (verdict_by number t) ≡ number
-    go true e true = rw e (sym (eqb-true number 0 e))
-    go true e false = rw e (sym (eqb-true number 0 e))
-    go false e t = rw e refl
+number_by (Ok tt) t = refl
+number_by (Err refused) t = refl
 
-yes_by : (number : ℕ) (t : Bool) → (verdict_by number t ≡ Verdict.Yes) ↔ ((number ≡ 0) × (t ≡ true))
-unfolding verdict_by case_of
-yes_by number t = (go (eqb number 0) refl t, λ both. rw (both.0, both.1) refl)
-  where
-    go : (b : Bool) → eqb number 0 ≡ b → (t : Bool) → verdict_by number t ≡ Verdict.Yes → (number ≡ 0) × (t ≡ true)
-    go true e true v = (eqb-true number 0 e, refl)
-    go true e false v = differ Verdict.No Verdict.Yes (rw e at v) (λ z. omega (arith, z))
-    go false e t v = differ (Verdict.Refused number) Verdict.Yes (rw e at v) (λ z. omega (arith, z))
-
-no_by : (number : ℕ) (t : Bool) → (verdict_by number t ≡ Verdict.No) ↔ ((number ≡ 0) × (t ≡ false))
-unfolding verdict_by case_of
-no_by number t = (go (eqb number 0) refl t, λ both. rw (both.0, both.1) refl)
-  where
-    go : (b : Bool) → eqb number 0 ≡ b → (t : Bool) → verdict_by number t ≡ Verdict.No → (number ≡ 0) × (t ≡ false)
-    go true e true v = differ Verdict.Yes Verdict.No (rw e at v) (λ z. omega (arith, z))
-    go true e false v = (eqb-true number 0 e, refl)
-    go false e t v = differ (Verdict.Refused number) Verdict.No (rw e at v) (λ z. omega (arith, z))
+judged_by :
+    (checked : Result Unit RefusalNumber) (t u : Bool) → (verdict_by checked t ≡ Ok u) ↔ ((checked ≡ Ok tt) × (t ≡ u))
+unfolding verdict_by
+judged_by (Ok tt) t u = (λ v. (refl, grind arith), λ both. ap Ok both.1)
+judged_by (Err refused) t u = (λ v. grind arith, λ both. grind arith)
 
 -- ---- what a verdict means
 
 module _ (o : Opening) (at : Reading) (rows : Rows) (s : Settings) (slack : ℕ) where
-  abbrev number : ℕ
-  number = settings_checks o s at slack (is_none_counted o at rows)
+  abbrev checked : Result Unit RefusalNumber
+  checked = settings_checks o s at slack (is_none_counted o at rows)
 
   abbrev fit : Bool
   fit = suits (lateness_of o at) (counted o at rows) (settings_lateness o at s) (allowance o slack)
 
-  -- no line applies exactly where no number is given
-  unrefused : (settings_checks o s at slack (is_none_counted o at rows) ≡ 0) ↔ NoneOf (settings_lines o at rows s slack)
+  -- no line applies exactly where nothing is refused
+  unrefused :
+      (settings_checks o s at slack (is_none_counted o at rows) ≡ Ok tt) ↔ NoneOf (settings_lines o at rows s slack)
   unfolding NoneOf MeansBehind
-  unrefused = (settings_means o at rows s slack).1.1.1.1.1.1
+  unrefused =
+      let zero : _ = (settings_means o at rows s slack).1.1.1.1.1.1 in
+      (λ e. zero.0 (ap answer_number e), λ none. answer_none checked (zero.1 none))
 
   pub verdict-accepted : (refusal_of (verdict o at rows s slack) ≡ 0) ↔ NoneOf (settings_lines o at rows s slack)
-  unfolding verdict
-  verdict-accepted = rw (number_by number fit) unrefused
+  unfolding verdict NoneOf MeansBehind
+  verdict-accepted = rw (number_by checked fit) (settings_means o at rows s slack).1.1.1.1.1.1
 
   some_counted : NoneOf (settings_lines o at rows s slack) → counted o at rows ≡ [] → ⊥
   unfolding NoneOf
@@ -310,10 +295,10 @@ module _ (o : Opening) (at : Reading) (rows : Rows) (s : Settings) (slack : ℕ)
   pub verdict_means : VerdictMeans o at rows s slack (verdict o at rows s slack)
   unfolding verdict
   verdict_means =
-      let yes-is : _ = yes_by number fit in
-      let no-is : _ = no_by number fit in
+      let yes-is : _ = judged_by checked fit true in
+      let no-is : _ = judged_by checked fit false in
       record {
-        refusals = rw (number_by number fit) (settings_means o at rows s slack);
+        refusals = rw (number_by checked fit) (settings_means o at rows s slack);
         suited = (
           λ v.
               let none : _ = unrefused.0 (yes-is.0 v).0 in
@@ -355,27 +340,23 @@ row_settings sender row =
     }
 
 -- the target of a choice, or another where there is none
-target_in : Target → Choice → Target
-target_in other (Choice.Target x) = x
-target_in other (Choice.Refused _) = other
+target_in : Target → Result Target RefusalNumber → Target
+target_in other (Ok x) = x
+target_in other (Err _) = other
 
 target_row :
-    (sender : ℕ) (x : Target) (row : Record) (n : ℕ) → Choice.Target x ≡ target_of row n →
+    (sender : ℕ) (x : Target) (row : Record) (n : ℕ) → Ok x ≡ target_of row n →
     target_settings sender x ≡ row_settings sender row
 unfolding row_settings target_in
-target_row sender x row n e = ap (λ (c : Choice). target_settings sender (target_in x c)) e
+target_row sender x row n e = ap (λ (c : Result Target RefusalNumber). target_settings sender (target_in x c)) e
 
 -- a choice with a target has counted rows
 target-counted :
-    (o : Opening) (at : Reading) (rows : Rows) (x : Target) → choice o at rows ≡ Choice.Target x →
+    (o : Opening) (at : Reading) (rows : Rows) (x : Target) → choice o at rows ≡ Ok x →
     counted o at rows ≡ [] → ⊥
 target-counted o at rows x e none =
-    let same : Choice.Refused none_counted ≡ Choice.Target x = sym (choice-none o at rows none) ∙ e in
-    omega (arith, ap refusal same)
-  where
-    refusal : Choice → ℕ
-    refusal (Choice.Target y) = 0
-    refusal (Choice.Refused number) = 1
+    let same : Err RefusalNumber.NoneCounted ≡ Ok x = sym (choice-none o at rows none) ∙ e in
+    grind arith
 
 module _ (o : Opening) (at : Reading) (rows : Rows) (sender : ℕ) (row : Record) (sound : SoundRow o row)
     (member : Memᴰ row (counted o at rows))
@@ -387,12 +368,13 @@ module _ (o : Opening) (at : Reading) (rows : Rows) (sender : ℕ) (row : Record
     abbrev full : ℕ
     full = expanded row.report.received row.report.presented
 
-    -- its number is that of 17 alone
-    own-number :
+    -- 17 alone can refuse it
+    own-checks :
         (p : Bool) → presents row ≡ p → (t : Bool) → settings_are_badly_presented received (cond p full 0) ≡ t →
-        settings_checks o (row_settings sender row) at 0 (is_none_counted o at rows) ≡ cond t badly_presented 0
+        settings_checks o (row_settings sender row) at 0 (is_none_counted o at rows)
+        ≡ cond t (Err RefusalNumber.BadlyPresented) (Ok tt)
     unfolding settings_checks row_settings
-    own-number p is t bad =
+    own-checks p is t bad =
         let far : Bool = is_far at.ntp row.report.received in
         let aged : Bool = is_aged o.rate at.rtp row.report.rtp in
         let fresh-both : _ = (and-eq-true_iff (not far) (not aged)).0 (counted_member o at rows row member).0 in
@@ -412,12 +394,11 @@ module _ (o : Opening) (at : Reading) (rows : Rows) (sender : ℕ) (row : Record
     -- in arrival mode it has no presented time
     own_arrival :
         presents row ≡ false →
-        verdict o at rows (row_settings sender row) 0 ≡ Verdict.Refused badly_presented
+        verdict o at rows (row_settings sender row) 0 ≡ Err RefusalNumber.BadlyPresented
     own_arrival is =
         sym
-        (verdict-refused o at rows (row_settings sender row) 0 badly_presented
-        (sym (own-number false is true (empty_bad received)))
-        (λ z. omega (arith, z)))
+        (verdict-refused o at rows (row_settings sender row) 0 RefusalNumber.BadlyPresented
+        (sym (own-checks false is true (empty_bad received))))
       where
         empty_bad : (n : ℕ) → settings_are_badly_presented n 0 ≡ true
         empty_bad n = go (ltb (30 * 2 ^ 32) (settings_delay n 0))
@@ -430,11 +411,11 @@ module _ (o : Opening) (at : Reading) (rows : Rows) (sender : ℕ) (row : Record
     own-delay : settings_delay received full ≡ delay received row.report.presented
     own-delay = delay_again received row.report.presented sound.range
 
-    own_presentation : presents row ≡ true → verdict o at rows (row_settings sender row) 0 ≡ Verdict.Yes
+    own_presentation : presents row ≡ true → verdict o at rows (row_settings sender row) 0 ≡ Ok true
     unfolding row_settings
     own_presentation is =
         sym
-        (verdict-judged o at rows (row_settings sender row) 0 (own-number true is false fair) true
+        (verdict-judged o at rows (row_settings sender row) 0 (own-checks true is false fair) true
         (sym ((tells_suits o at rows (row_settings sender row) 0 some).1 fits)))
       where
         good : is_badly_presented received row.report.presented ≡ false
@@ -479,7 +460,7 @@ module _ (o : Opening) (at : Reading) (rows : Rows) (sender : ℕ) (row : Record
 
 -- the chosen row's group is the opening's
 pub target-group :
-    (o : Opening) (at : Reading) (rows : Rows) → Sound o rows → (x : Target) → choice o at rows ≡ Choice.Target x →
+    (o : Opening) (at : Reading) (rows : Rows) → Sound o rows → (x : Target) → choice o at rows ≡ Ok x →
     x.group ≡ o.group
 unfolding row_settings
 target-group o at rows sound x e =
@@ -490,9 +471,9 @@ target-group o at rows sound x e =
 -- yes with slack 0 in presentation mode, 17 in arrival mode
 pub own-verdict :
     (o : Opening) (at : Reading) (rows : Rows) → Sound o rows → (x : Target) (sender : ℕ) →
-    choice o at rows ≡ Choice.Target x →
+    choice o at rows ≡ Ok x →
     verdict o at rows (target_settings sender x) 0
-    ≡ cond (is_arrival o at rows) (Verdict.Refused badly_presented) Verdict.Yes
+    ≡ cond (is_arrival o at rows) (Err RefusalNumber.BadlyPresented) (Ok true)
 own-verdict o at rows sound x sender e =
     ap (λ (s : Settings). verdict o at rows s 0) (target_row sender x row (length (counted o at rows)) (sym e ∙ y.is))
     ∙ go (is_arrival o at rows) refl
@@ -506,7 +487,7 @@ own-verdict o at rows sound x sender e =
     go :
         (t : Bool) → is_arrival o at rows ≡ t →
         verdict o at rows (row_settings sender row) 0
-        ≡ cond (is_arrival o at rows) (Verdict.Refused badly_presented) Verdict.Yes
+        ≡ cond (is_arrival o at rows) (Err RefusalNumber.BadlyPresented) (Ok true)
     go true arrival =
         rw arrival
         (own_arrival o at rows sender row (sound row (counted_member o at rows row y.member).1) y.member

@@ -7,7 +7,8 @@ use Rattle.times.specs.Times.{is_badly_presented}
 use Rattle.register.specs.declared.Record.{Record}
 use Rattle.register.specs.declared.Member.{Member}
 use Rattle.register.specs.declared.Reading.{Reading}
-use Rattle.register.specs.Register.{Opening, Rows, Call, presents, answers, after_all}
+use Rattle.register.specs.declared.Opening.{Opening}
+use Rattle.register.specs.Register.{Rows, Call, presents, answers, after_all}
 use Rattle.register.specs.Tallies.{Members, records_of, tally_in, members_after_all}
 use Rattle.register.specs.Promise.{InRange, AllInRange}
 use Rattle.register.specs.Letter.{got, History, history, made_in, Stands, lines_of, NoneOf, MeansBehind, Means}

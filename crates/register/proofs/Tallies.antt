@@ -12,7 +12,8 @@ use native.Mathlib.Omega.{arith}
 use borrow.Author.Tests.{eqb-true, eq-eqb, ltb-false, le-ltb}
 use Rattle.register.specs.declared.Record.{Record}
 use Rattle.register.specs.declared.Member.{Member}
-use Rattle.register.specs.Register.{Opening, Rows, Call, any, has_number, after, after_all}
+use Rattle.register.specs.declared.Opening.{Opening}
+use Rattle.register.specs.Register.{Rows, Call, any, has_number, after, after_all}
 use Rattle.register.specs.Tallies.{Members, records_of, tally_limit, raised, tally_in, with_tallies}
 use Rattle.register.specs.Tallies.{tally_after, members_after, members_after_all}
 use Rattle.register.proofs.Rows.{clash, or_false}

@@ -4,15 +4,18 @@ use Prim.Native.Nat.{ℕ, ◌+◌, ◌*◌, ◌^◌}
 use mathlib.Core.List.{List, [], ◌∷◌}
 use mathlib.Core.Path.{◌≡◌, refl}
 use lib.IntN.{pos}
+use Rattle.std.specs.Prelude.{Result, Ok, Err}
+use Rattle.refusals.specs.declared.RefusalNumber.{RefusalNumber}
 use Rattle.times.specs.Times.{difference_mod, step, unwrapped, expanded, delay}
 use Rattle.origin.specs.declared.Origin.{Origin}
 use Rattle.origin.specs.Origins.{same_bytes, same_origin}
 use Rattle.register.specs.declared.Record.{Record}
 use Rattle.register.specs.declared.Reading.{Reading}
-use Rattle.register.specs.Register.{Opening, Call, filter, any, renewed, report_checks, farewell_checks, answer}
+use Rattle.register.specs.declared.Opening.{Opening}
+use Rattle.register.specs.Register.{Call, filter, any, renewed, report_checks, farewell_checks, answer}
 use Rattle.register.specs.Register.{after, answers, after_all}
 use Rattle.register.specs.Choosing.{lateness, lateness_of, precedes_all, choice}
-use Rattle.register.specs.declared.Choice.{Choice}
+use Rattle.register.specs.declared.Target.{Target}
 
 -- group 42, media 7, rate 90,000; N = 1000 s, R = 9,000,000
 abbrev opening : Opening
@@ -56,9 +59,9 @@ twin = member 10 (port 5007) (seconds 998) 8820000 0x03E6C000
 abbrev both : List Call
 both = Call.report ten reading ∷ Call.report twenty reading ∷ []
 
-abbrev target : (source received rtp presented counted : ℕ) → Choice
+abbrev target : (source received rtp presented counted : ℕ) → Result Target RefusalNumber
 target source received rtp presented counted =
-    Choice.Target
+    Ok
     (record {
       source = source;
       group = 42;
@@ -69,7 +72,7 @@ target source received rtp presented counted =
       counted = counted;
     })
 
-abbrev target20 : Choice
+abbrev target20 : Result Target RefusalNumber
 target20 = target 20 (seconds 998) 8820000 (seconds 998 + 0xC0000000) 2
 
 -- 20 without a presented time: counted in arrival mode alone
@@ -93,7 +96,7 @@ silent =
 abbrev ten_later : Record
 ten_later = member 10 (port 5005) (seconds 999) 8910000 0x03E7C000
 
-abbrev target10 : Choice
+abbrev target10 : Result Target RefusalNumber
 target10 = target 10 (seconds 999) 8910000 (seconds 999 + 0xC0000000) 2
 
 -- source 10 from a second port: its report and its farewell
@@ -133,8 +136,8 @@ cases :
     × (after opening (ten ∷ twenty ∷ []) (Call.sweep (later 0)) ≡ ten ∷ twenty ∷ [])
     × (after opening (ten ∷ twenty ∷ []) (Call.sweep (later 1)) ≡ ten ∷ [])
     -- 20 where no row is fresh, and without rows
-    × (choice opening (later (seconds 10)) (ten ∷ twenty ∷ []) ≡ Choice.Refused 20)
-    × (choice opening reading [] ≡ Choice.Refused 20)
+    × (choice opening (later (seconds 10)) (ten ∷ twenty ∷ []) ≡ Err RefusalNumber.NoneCounted)
+    × (choice opening reading [] ≡ Err RefusalNumber.NoneCounted)
 unfolding filter any renewed report_checks farewell_checks answer after answers after_all lateness precedes_all choice
     same_bytes same_origin difference_mod step unwrapped expanded delay
 cases =

@@ -1,14 +1,15 @@
 -- Choosing (document 01): the counted rows, their lateness, and the one of greatest lateness.
 use Rattle.std.specs.Prelude.{ℕ, ◌*◌, ◌^◌, Bool, true, not, cond, ◌&&◌, ◌||◌, [], ◌∷◌, leb, eqb, ℤ, pos, ◌+ℤ◌, ◌*ℤ◌, length}
+use Rattle.std.specs.Prelude.{Result, Ok, Err}
 use Rattle.std.proofs.Math.IntN.{sub_ℕ}
 use Rattle.std.specs.Int.Signed.{le_z, lt_z}
-use Rattle.refusals.specs.Refusals.{none_counted}
+use Rattle.refusals.specs.declared.RefusalNumber.{RefusalNumber}
 use Rattle.times.specs.Times.{difference_mod, ntp_age, rtp_age, delay, expanded}
 use Rattle.register.specs.declared.Record.{Record}
 use Rattle.register.specs.declared.Reading.{Reading}
 use Rattle.register.specs.declared.Target.{Target}
-use Rattle.register.specs.declared.Choice.{Choice}
-use Rattle.register.specs.Register.{Opening, Rows, filter, any, presents, fresh_at}
+use Rattle.register.specs.declared.Opening.{Opening}
+use Rattle.register.specs.Register.{Rows, filter, any, presents, fresh_at}
 
 -- lateness, in units of 1/(rate × 2^32) s: rate × (delay − NTP age) + RTP age × 2^32, a signed number. `wait` is the
 -- delay here, `age` the NTP age and `ticks` the RTP age.
@@ -54,9 +55,9 @@ chosen o at rows =
 
 -- the member's number, the settings fields from its own report (presented expanded, or 0 in arrival mode), and how many
 -- were counted
-abbrev pub target_of : Record → ℕ → Choice
+abbrev pub target_of : Record → ℕ → Result Target RefusalNumber
 target_of row count =
-    Choice.Target
+    Ok
     (record {
       source = row.source;
       group = row.report.group;
@@ -68,11 +69,11 @@ target_of row count =
     })
 
 -- 20 where nothing is counted
-abbrev pub first_of : ℕ → Rows → Choice
-first_of count [] = Choice.Refused none_counted
+abbrev pub first_of : ℕ → Rows → Result Target RefusalNumber
+first_of count [] = Err RefusalNumber.NoneCounted
 first_of count (row ∷ rows) = target_of row count
 
-unfoldable pub choice : Opening → Reading → Rows → Choice
+unfoldable pub choice : Opening → Reading → Rows → Result Target RefusalNumber
 choice o at rows = first_of (length (counted o at rows)) (chosen o at rows)
 
 -- ---- a target as a lateness

@@ -1,11 +1,12 @@
 -- What demand 3 says of the register's rows and of its choice at a reading.
-use Rattle.std.specs.Prelude.{ℕ, ◌^◌, ◌≤◌, ◌<◌, ◌≡◌, ℤ, length, ◌≤ℤ◌}
+use Rattle.std.specs.Prelude.{ℕ, ◌^◌, ◌≤◌, ◌<◌, ◌≡◌, ℤ, length, ◌≤ℤ◌, Result, Ok, Err}
 use mathlib.Core.List.{List, [], ◌∷◌, Memᴰ}
-use Rattle.refusals.specs.Refusals.{none_counted}
+use Rattle.refusals.specs.declared.RefusalNumber.{RefusalNumber}
 use Rattle.register.specs.declared.Record.{Record}
 use Rattle.register.specs.declared.Reading.{Reading}
-use Rattle.register.specs.declared.Choice.{Choice}
-use Rattle.register.specs.Register.{Opening, Rows, Call, filter, has_number}
+use Rattle.register.specs.declared.Target.{Target}
+use Rattle.register.specs.declared.Opening.{Opening}
+use Rattle.register.specs.Register.{Rows, Call, filter, has_number}
 use Rattle.register.specs.Choosing.{fresh, counted, lateness_of, target_lateness, moment}
 
 -- no number has two rows
@@ -35,10 +36,10 @@ IsReported o at rows late =
 
 -- a target asks no counted row for a sample earlier, any other such lateness is at least as late, it is that of some
 -- counted row's own report, and it is withheld, with 20, exactly when no row is fresh
-unfoldable pub Promised : Opening → Reading → Rows → Choice → Type 0
-Promised o at rows (Choice.Target x) =
+unfoldable pub Promised : Opening → Reading → Rows → Result Target RefusalNumber → Type 0
+Promised o at rows (Ok x) =
     AsksNoneEarlier o at rows (target_lateness o at x)
     × ((late : ℤ) → AsksNoneEarlier o at rows late → target_lateness o at x ≤ℤ late)
     × IsReported o at rows (target_lateness o at x)
     × (fresh o at rows ≡ [] → ⊥)
-Promised o at rows (Choice.Refused number) = (number ≡ none_counted) × (fresh o at rows ≡ [])
+Promised o at rows (Err refused) = (refused ≡ RefusalNumber.NoneCounted) × (fresh o at rows ≡ [])

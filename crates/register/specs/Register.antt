@@ -5,14 +5,9 @@ use Rattle.refusals.specs.Refusals.{other_stream, other_origin, received_far, rt
 use Rattle.times.specs.Times.{is_far, is_aged, is_badly_presented, is_fresh}
 use Rattle.origin.specs.declared.Origin.{Origin}
 use Rattle.origin.specs.Origins.{same_origin}
+use Rattle.register.specs.declared.Opening.{Opening}
 use Rattle.register.specs.declared.Record.{Record}
 use Rattle.register.specs.declared.Reading.{Reading}
-
--- what a register starts for, without rows: a group, a media source and a clock rate
-pub record Opening : Type 0 where
-  pub group : ℕ
-  pub media : ℕ
-  pub rate : ℕ
 
 -- a row is a source number, its origin and its standing report
 abbrev pub Rows : Type 0

@@ -1,14 +1,17 @@
 -- Document 02, E9, as sentences: what each verdict on a settings packet means, and what it tells a venue of its units. A
 -- row is a member's.
 use Rattle.std.specs.Prelude.{ℕ, ◌*◌, ◌^◌, ◌<◌, ◌⊎◌, ◌↔◌, ◌≡◌, ℤ, pos, ◌+ℤ◌, ◌≤ℤ◌, ◌<ℤ◌}
+use Rattle.std.specs.Prelude.{Bool, true, false, Result, Ok, Err}
 use mathlib.Core.List.{List, [], ◌∷◌, Memᴰ}
 use Rattle.refusals.specs.Refusals.{out_of_range, none_counted, other_stream, received_far, rtp_aged, badly_presented}
+use Rattle.refusals.specs.Refusals.{refusal_number}
+use Rattle.refusals.specs.declared.RefusalNumber.{RefusalNumber}
 use Rattle.idms.specs.declared.Settings.{Settings}
 use Rattle.times.specs.Times.{ntp_age, rtp_age, settings_delay}
 use Rattle.register.specs.declared.Record.{Record}
 use Rattle.register.specs.declared.Reading.{Reading}
-use Rattle.register.specs.declared.Verdict.{Verdict}
-use Rattle.register.specs.Register.{Opening, Rows}
+use Rattle.register.specs.declared.Opening.{Opening}
+use Rattle.register.specs.Register.{Rows}
 use Rattle.register.specs.Choosing.{counted, lateness_of, moment}
 use Rattle.register.specs.Promise.{AsksNoneEarlier}
 use Rattle.register.specs.Letter.{Line, NoneOf, Means}
@@ -35,10 +38,9 @@ settings_lines o at rows s slack =
     ∷ []
 
 -- a verdict as the papers' number: that of a refusal, and 0 for yes and for no
-abbrev pub refusal_of : Verdict → ℕ
-refusal_of Verdict.Yes = 0
-refusal_of Verdict.No = 0
-refusal_of (Verdict.Refused number) = number
+abbrev pub refusal_of : Result Bool RefusalNumber → ℕ
+refusal_of (Ok suited) = 0
+refusal_of (Err refused) = refusal_number refused
 
 -- ---- yes and no
 
@@ -72,21 +74,22 @@ ExceedsSlack o at rows slack late =
     (row : Record) × IsGreatest o at rows row × ((lateness_of o at row +ℤ pos (o.rate * slack * 2 ^ 16)) <ℤ late)
 
 -- what a verdict says
-pub record VerdictMeans (o : Opening) (at : Reading) (rows : Rows) (s : Settings) (slack : ℕ) (v : Verdict) : Type 0
+pub record VerdictMeans (o : Opening) (at : Reading) (rows : Rows) (s : Settings) (slack : ℕ)
+    (v : Result Bool RefusalNumber) : Type 0
   where
     -- each number is given exactly where its line applies and none before it does
     pub refusals : Means (settings_lines o at rows s slack) (refusal_of v)
     -- where no line applies, yes exactly if the packet suits
-    pub suited : (v ≡ Verdict.Yes) ↔ (NoneOf (settings_lines o at rows s slack) × Suits o at rows s slack)
+    pub suited : (v ≡ Ok true) ↔ (NoneOf (settings_lines o at rows s slack) × Suits o at rows s slack)
     -- and no exactly if it asks some counted row earlier, or exceeds the slack
     pub unsuited :
-        (v ≡ Verdict.No)
+        (v ≡ Ok false)
         ↔ (NoneOf (settings_lines o at rows s slack)
         × (AsksSomeEarlier o at rows (settings_lateness o at s)
         ⊎ ExceedsSlack o at rows slack (settings_lateness o at s)))
     -- yes: the packet asks no counted row for a sample earlier
-    pub none_earlier : v ≡ Verdict.Yes → AsksNoneEarlier o at rows (settings_lateness o at s)
+    pub none_earlier : v ≡ Ok true → AsksNoneEarlier o at rows (settings_lateness o at s)
     -- no, with a lateness below a counted row's: that row is asked earlier
     pub below_earlier :
-        v ≡ Verdict.No → (row : Record) → Memᴰ row (counted o at rows) →
+        v ≡ Ok false → (row : Record) → Memᴰ row (counted o at rows) →
         settings_lateness o at s <ℤ lateness_of o at row → AsksEarlier o at row (settings_lateness o at s)

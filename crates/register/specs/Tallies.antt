@@ -3,7 +3,8 @@
 use Rattle.std.specs.Prelude.{ℕ, ◌+◌, Bool, false, cond, ◌&&◌, List, [], ◌∷◌, ltb, eqb}
 use Rattle.refusals.specs.Refusals.{other_origin}
 use Rattle.register.specs.declared.Member.{Member}
-use Rattle.register.specs.Register.{Opening, Rows, Call, has_number, answer, after}
+use Rattle.register.specs.declared.Opening.{Opening}
+use Rattle.register.specs.Register.{Rows, Call, has_number, answer, after}
 
 -- a member is a record, which is its row in the plain register, and its tally
 abbrev pub Members : Type 0

@@ -1,8 +1,16 @@
-// What a member table and the plain register are told, what a table holds of a member, and what choosing and checking a
-// settings packet answer.
+// What a member table and the plain register are told, what a table holds of a member, and what choosing answers.
 #![tactic(auto)]
 
 use origin::Origin;
+
+// What a register starts for: a group, a media source and a clock rate.
+#[repr(C)]
+#[derive(Clone, Copy)]
+pub struct Opening {
+    pub group: u32,
+    pub media: u32,
+    pub rate: u32,
+}
 
 // A report as it stands in a row: the fields of a report item but its sender, who is the record's source. `p` is a
 // number so that a host in C need not vet it: any value but 0 is P 1.
@@ -59,19 +67,4 @@ pub struct Target {
     pub rtp: u32,
     pub presented: u64,
     pub counted: u32,
-}
-
-// What choosing answers: a target, or a refusal's number.
-#[derive(Clone, Copy)]
-pub enum Choice {
-    Target(Target),
-    Refused(u64),
-}
-
-// Whether a settings packet suits the members, or a refusal's number.
-#[derive(Clone, Copy)]
-pub enum Verdict {
-    Yes,
-    No,
-    Refused(u64),
 }

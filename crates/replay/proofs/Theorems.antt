@@ -1,5 +1,7 @@
 -- Demand 3 of a replay.
 use Prim.Native.Nat.{ℕ, ◌*◌, ◌≤◌}
+use Rattle.std.specs.Prelude.{Result, Ok}
+use Rattle.refusals.specs.declared.RefusalNumber.{RefusalNumber}
 use mathlib.Core.Path.{◌≡◌, refl, sym, ap, ◌∙◌}
 use mathlib.Core.Bool.{true, false}
 use mathlib.Core.List.{List, [], ◌∷◌, ◌++◌, append-nil}
@@ -8,7 +10,8 @@ use lib.Dec.{ltb}
 use lib.Seq.{drop_at}
 use borrow.Author.Tests.{lt-ltb, le-ltb}
 use Rattle.packet.specs.Bytes.{AreBytes}
-use Rattle.register.specs.Register.{Opening, is_refused_opening}
+use Rattle.register.specs.declared.Opening.{Opening}
+use Rattle.register.specs.Register.{is_refused_opening}
 use Rattle.register.specs.Tallies.{records_of}
 use Rattle.register.specs.Choosing.{choice}
 use Rattle.register.specs.Promise.{AllInRange}
@@ -17,11 +20,11 @@ use Rattle.register.proofs.History.{answers-behind}
 use Rattle.register.proofs.Tallies.{rows_after-all}
 use Rattle.register.proofs.Letter.Lines.{untold}
 use Rattle.register.proofs.Letter.Tests.{tells_bad_opening}
+use Rattle.register.specs.declared.Target.{Target}
 use Rattle.table.specs.declared.Chosen.{Chosen}
 use Rattle.table.specs.Calls.{opened}
 use Rattle.table.specs.History.{answers_from, Reached}
 use Rattle.table.proofs.Agreement.Theorem.{demand3, reached, reached-answers}
-use Rattle.replay.specs.declared.Replayed.{Replayed}
 use Rattle.replay.specs.Recording.{RecordedDatagram, entry_count, opening_in, entries_in, is_bad_layout}
 use Rattle.replay.specs.Replay.{entry_row_length, entry_calls, entry_row_with, entry_row, calls_of_entries, entry_rows}
 use Rattle.replay.specs.Replay.{choice_at_end, replayed, replayed_rows}
@@ -75,7 +78,9 @@ module _
   enough = le-ltb _ _ room
 
   taken-answer :
-      replayed f lent ≡ Replayed.Entries (entry_count f) (choice_at_end (opened (opening_in f)).table (entries_in f))
+      replayed f lent
+      ≡ Ok
+      (record { entries = entry_count f; choice = choice_at_end (opened (opening_in f)).table (entries_in f) })
   unfolding replayed
   taken-answer = rw (good, untold_opening (opening_in f) takes, enough) refl
 
@@ -108,7 +113,7 @@ module _
             (rows-length (opened o).table (entries_in f) ∙ ap (λ (n : ℕ). entry_row_length * n) (entries_length f)));
         target = λ before last is.
             taken-answer
-            ∙ ap (Replayed.Entries (entry_count f))
+            ∙ ap (λ (c : Result Target RefusalNumber). Ok (record { entries = entry_count f; choice = c }))
             (rw is
             (choice-answered o before last (first_reached (before ++ last ∷ []) [] (is ∙ sym (append-nil _)))));
         none = λ is.

@@ -7,17 +7,17 @@
 -- and what they use, `calls_in` (intake Datagrams) and `record_of` (table Intake) among it; and what reading gives
 -- (datagram Datagram with what it uses of `packet` and `packet_checks`).
 use Rattle.std.specs.Prelude.{ℕ, ◌*◌, ◌≤◌, ◌<◌, ◌≡◌, true, false, List, [], ◌∷◌, ◌++◌, length, take, drop}
-use Rattle.refusals.specs.Refusals.{short_buffer, bad_opening, none_counted, bad_layout}
+use Rattle.std.specs.Prelude.{Ok, Err}
+use Rattle.refusals.specs.declared.RefusalNumber.{RefusalNumber}
 use Rattle.packet.specs.Bytes.{AreBytes}
-use Rattle.register.specs.declared.Choice.{Choice}
-use Rattle.register.specs.Register.{Opening, answers}
+use Rattle.register.specs.declared.Opening.{Opening}
+use Rattle.register.specs.Register.{answers}
 use Rattle.register.specs.Tallies.{Members, records_of, members_after_all}
 use Rattle.register.specs.Choosing.{choice}
 use Rattle.register.specs.Letter.{BadOpening}
 use Rattle.table.specs.declared.Table.{Table}
 use Rattle.table.specs.Calls.{opened}
 use Rattle.table.specs.History.{table_from, Reached}
-use Rattle.replay.specs.declared.Replayed.{Replayed}
 use Rattle.replay.specs.Recording.{RecordedDatagram, entry_count, opening_in, entries_in, is_bad_layout}
 use Rattle.replay.specs.Replay.{entry_row_length, entry_row_with, calls_of_entries, replayed, replayed_rows}
 
@@ -56,24 +56,29 @@ module _ (f lent : List ℕ) where
     pub target :
         (before : List RecordedDatagram) (last : RecordedDatagram) → entries_in f ≡ before ++ last ∷ [] →
         replayed f lent
-        ≡ Replayed.Entries (entry_count f)
-        (choice (opening_in f) last.at (records_of (members_after_entries (opening_in f) (entries_in f))))
+        ≡ Ok
+        (record {
+          entries = entry_count f;
+          choice = choice (opening_in f) last.at (records_of (members_after_entries (opening_in f) (entries_in f)));
+        })
     -- without entries it is 20
-    pub none : entries_in f ≡ [] → replayed f lent ≡ Replayed.Entries 0 (Choice.Refused none_counted)
+    pub none :
+        entries_in f ≡ [] → replayed f lent ≡ Ok (record { entries = 0; choice = Err RefusalNumber.NoneCounted })
 
-  -- what is said of one that is refused: that number is the answer, and the lent rows are as they were (demand 1)
-  pub record RecordingRefused (number : ℕ) : Type 0 where
-    pub refused_with : replayed f lent ≡ Replayed.Refused number
+  -- what is said of one that is refused: that refusal is the answer, and the lent rows are as they were (demand 1)
+  pub record RecordingRefused (refused : RefusalNumber) : Type 0 where
+    pub refused_with : replayed f lent ≡ Err refused
     pub unchanged : replayed_rows f lent ≡ lent
 
 -- of every file: 25, then 12, then 10; and where none applies, demand 3
 pub record EveryRecording : Type 0 where
-  pub bad_layout_refused : (f lent : List ℕ) → is_bad_layout f ≡ true → RecordingRefused f lent bad_layout
+  pub bad_layout_refused : (f lent : List ℕ) → is_bad_layout f ≡ true → RecordingRefused f lent RefusalNumber.BadLayout
   pub bad_opening_refused :
-      (f lent : List ℕ) → is_bad_layout f ≡ false → BadOpening (opening_in f) → RecordingRefused f lent bad_opening
+      (f lent : List ℕ) → is_bad_layout f ≡ false → BadOpening (opening_in f) →
+      RecordingRefused f lent RefusalNumber.BadOpening
   pub few_rows :
       (f lent : List ℕ) → is_bad_layout f ≡ false → (BadOpening (opening_in f) → ⊥) →
-      length lent < entry_row_length * entry_count f → RecordingRefused f lent short_buffer
+      length lent < entry_row_length * entry_count f → RecordingRefused f lent RefusalNumber.ShortBuffer
   pub replays :
       (f lent : List ℕ) → AreBytes f → is_bad_layout f ≡ false → (BadOpening (opening_in f) → ⊥) →
       entry_row_length * entry_count f ≤ length lent → RecordingReached f lent

@@ -4,7 +4,7 @@ use Rattle.std.specs.Prelude.{ℕ, suc, zero, ◌+◌, ◌*◌, List, [], ◌∷
 use Rattle.packet.specs.Bytes.{be16, be32, be64}
 use Rattle.origin.specs.declared.Origin.{Origin}
 use Rattle.register.specs.declared.Reading.{Reading}
-use Rattle.register.specs.Register.{Opening}
+use Rattle.register.specs.declared.Opening.{Opening}
 
 -- ---- the head: entry count, group, media source, rate
 

@@ -1,11 +1,13 @@
 -- A recording run through a table (document 02, E7): what each entry gives, and what is chosen at the end. Reduced size
 -- is off.
 use Rattle.std.specs.Prelude.{ℕ, ◌+◌, ◌*◌, List, [], ◌∷◌, ◌++◌, false, cond, length, drop, ltb, eqb}
-use Rattle.refusals.specs.Refusals.{short_buffer, bad_opening, none_counted, bad_layout}
+use Rattle.std.specs.Prelude.{Result, Ok, Err}
+use Rattle.register.specs.declared.Target.{Target}
+use Rattle.refusals.specs.declared.RefusalNumber.{RefusalNumber}
+use Rattle.refusals.specs.Refusals.{refusal_number}
 use Rattle.packet.specs.Checks.{Check, passed, refused}
 use Rattle.datagram.specs.Datagram.{datagram_check, datagram_items}
 use Rattle.register.specs.declared.Reading.{Reading}
-use Rattle.register.specs.declared.Choice.{Choice}
 use Rattle.register.specs.Register.{Call, is_refused_opening}
 use Rattle.table.specs.declared.Table.{Table}
 use Rattle.table.specs.Calls.{opened}
@@ -43,7 +45,7 @@ entry_row_length = 3
 -- datagram that the reader refuses has 0 items, 0 accepted and the reader's number.
 abbrev pub entry_row_unless : Check → ℕ → List ℕ → List ℕ
 entry_row_unless passed items numbers = items ∷ accepted_in numbers ∷ first_refusal numbers ∷ []
-entry_row_unless (refused number place) items numbers = 0 ∷ 0 ∷ number ∷ []
+entry_row_unless (refused number place) items numbers = 0 ∷ 0 ∷ refusal_number number ∷ []
 
 -- its row, with the numbers that its calls get
 abbrev pub entry_row_with : RecordedDatagram → List ℕ → List ℕ
@@ -70,19 +72,20 @@ last_reading at [] = at
 last_reading at (e ∷ es) = last_reading e.at es
 
 -- the choice at the last entry's reading; without entries 20
-abbrev pub choice_at_end : Table → List RecordedDatagram → Choice
-choice_at_end t [] = Choice.Refused none_counted
+abbrev pub choice_at_end : Table → List RecordedDatagram → Result Target RefusalNumber
+choice_at_end t [] = Err RefusalNumber.NoneCounted
 choice_at_end t (e ∷ es) = choice_of (table_from t (calls_of_entries (e ∷ es))) (last_reading e.at es)
 
 -- ---- a whole recording: 25, then 12, then document 01's 10 where the lent rows are too few; after each the rows are
 -- as they were
 
-unfoldable pub replayed : List ℕ → List ℕ → Replayed
+unfoldable pub replayed : List ℕ → List ℕ → Result Replayed RefusalNumber
 replayed f lent =
-    cond (is_bad_layout f) (Replayed.Refused bad_layout)
-    (cond (is_refused_opening (opening_in f)) (Replayed.Refused bad_opening)
-    (cond (ltb (length lent) (entry_row_length * entry_count f)) (Replayed.Refused short_buffer)
-    (Replayed.Entries (entry_count f) (choice_at_end (opened (opening_in f)).table (entries_in f)))))
+    cond (is_bad_layout f) (Err RefusalNumber.BadLayout)
+    (cond (is_refused_opening (opening_in f)) (Err RefusalNumber.BadOpening)
+    (cond (ltb (length lent) (entry_row_length * entry_count f)) (Err RefusalNumber.ShortBuffer)
+    (Ok
+    (record { entries = entry_count f; choice = choice_at_end (opened (opening_in f)).table (entries_in f) }))))
 
 -- the lent rows afterwards: those of the entries, and behind them what was there
 unfoldable pub replayed_rows : List ℕ → List ℕ → List ℕ

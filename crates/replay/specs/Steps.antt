@@ -1,9 +1,12 @@
 -- What the code holds while it takes an entry: where its body lies, the step before, how many of its items are left,
 -- and its row so far.
 use Rattle.std.specs.Prelude.{ℕ, ◌+◌, ◌-◌, List, [], ◌∷◌, cond, eqb, take, drop}
-use Rattle.datagram.specs.declared.Count.{Count}
+use Rattle.refusals.specs.Refusals.{refusal_number}
+use Rattle.std.specs.Prelude.{Option, Some, None, Result, Ok, Err}
+use Rattle.std.specs.Result.{result_unwrap_or}
+use Rattle.idms.specs.declared.Refusal.{Refusal}
+use Rattle.idms.specs.declared.Placed.{Placed}
 use Rattle.rtcp.specs.declared.cursor.Cursor.{Cursor}
-use Rattle.rtcp.specs.declared.cursor.Step.{Step}
 use Rattle.rtcp.specs.Cursor.{next_of, start}
 use Rattle.replay.specs.declared.layout.Listed.{Listed}
 use Rattle.replay.specs.declared.steps.Row.{Row}
@@ -22,25 +25,24 @@ datagram_of f entry = take (entry.end - entry.body) (drop entry.body f)
 -- ---- its items
 
 -- where the item behind a step starts; behind an end an entry begins, with the first of its items
-abbrev pub cursor_behind : Step → Cursor
-cursor_behind (Step.Item x next) = next
-cursor_behind Step.End = start
+abbrev pub cursor_behind : Option (Placed × Cursor) → Cursor
+cursor_behind (Some (x, next)) = next
+cursor_behind None = start
 
 -- the next one, where so many are left behind the cursor
-unfoldable pub next_in : List ℕ → ℕ → Cursor → Step
-next_in d left c = cond (eqb left 0) Step.End (next_of d c)
+unfoldable pub next_in : List ℕ → ℕ → Cursor → Option (Placed × Cursor)
+next_in d left c = cond (eqb left 0) None (next_of d c)
 
 -- how many are to be taken
-abbrev pub items_in : Count → ℕ
-items_in (Count.Items n) = n
-items_in (Count.Refused r) = 0
+abbrev pub items_in : Result ℕ Refusal → ℕ
+items_in count = result_unwrap_or count 0
 
 -- ---- a row so far
 
 -- before the first item
-unfoldable pub first_row : Count → Row
-first_row (Count.Items n) = record { items = n; accepted = 0; number = 0 }
-first_row (Count.Refused r) = record { items = 0; accepted = 0; number = r.number }
+unfoldable pub first_row : Result ℕ Refusal → Row
+first_row (Ok n) = record { items = n; accepted = 0; number = 0 }
+first_row (Err r) = record { items = 0; accepted = 0; number = refusal_number r.number }
 
 -- the first of two numbers that is not 0, if one is not
 abbrev pub first_of_two : ℕ → ℕ → ℕ

@@ -1,6 +1,6 @@
 // The bytes of a recording: whether its layout is good, and its entries.
-ghost use Rattle.std.specs.Prelude.{◌≡◌, ◌+◌, ◌*◌, ◌≤◌, ◌^◌, length, take, drop};
-ghost use Rattle.packet.specs.Bytes.{from_bytes, be16, be32, be64};
+ghost use Rattle.std.specs.Prelude.{◌≡◌, ◌+◌, ◌*◌, ◌≤◌, length, take, drop};
+ghost use Rattle.packet.specs.Bytes.{be16, be32, be64};
 ghost use Rattle.replay.specs.Recording.{entry_size, entry_place, entry_limit, bodies_end};
 ghost use Rattle.replay.specs.Recording.{recording_limit, is_bad_layout};
 ghost use Rattle.replay.specs.Steps.{listed_at};
@@ -27,49 +27,41 @@ pub(crate) struct Listed {
     pub(crate) end: usize,
 }
 
-// The number that four bytes spell, the first the most significant.
-fn join(a: u8, b: u8, c: u8, d: u8) -> u32
-    ensures { result ≡ from_bytes a b c d }
-{
-    (a as u32) * 16777216 + (b as u32) * 65536 + (c as u32) * 256 + d as u32
-}
-
-// Two bytes as a number.
-fn pair(a: u8, b: u8) -> u16
-    ensures { result ≡ from_bytes 0 0 a b }
-{
-    (a as u16) * 256 + b as u16
-}
-
-// Two halves as a number.
-fn halves(high: u32, low: u32) -> u64
-    ensures { result ≡ high * 2 ^ 32 + low }
-{
-    (high as u64) * 4294967296 + low as u64
-}
-
-// The 16 bits at a place.
+// The 16 bits at a place. The readers are as those of packet, which are not public, since a public function has no
+// `requires` here.
+#[tactic(auto, unfolding(packet::specs::Bytes::be16))]
 fn read16(f: &[u8], at: usize) -> u16
     requires { at + 2 ≤ length f.now }
     ensures { result ≡ be16 f.now at }
 {
-    pair(f[at], f[at + 1])
+    u16::from_be_bytes([f[at], f[at + 1]])
 }
 
 // The 32 bits at a place.
+#[tactic(auto, unfolding(packet::specs::Bytes::be32))]
 pub(crate) fn read32(f: &[u8], at: usize) -> u32
     requires { at + 4 ≤ length f.now }
     ensures { result ≡ be32 f.now at }
 {
-    join(f[at], f[at + 1], f[at + 2], f[at + 3])
+    u32::from_be_bytes([f[at], f[at + 1], f[at + 2], f[at + 3]])
 }
 
 // The 64 bits at a place.
+#[tactic(auto, unfolding(packet::specs::Bytes::be64, packet::specs::Bytes::be32))]
 fn read64(f: &[u8], at: usize) -> u64
     requires { at + 8 ≤ length f.now }
     ensures { result ≡ be64 f.now at }
 {
-    halves(read32(f, at), read32(f, at + 4))
+    u64::from_be_bytes([
+        f[at],
+        f[at + 1],
+        f[at + 2],
+        f[at + 3],
+        f[at + 4],
+        f[at + 5],
+        f[at + 6],
+        f[at + 7],
+    ])
 }
 
 // The address at a place.
@@ -78,11 +70,7 @@ fn address_at(f: &[u8], at: usize) -> [u8; 16]
     ensures { result ≡ take 16 (drop at f.now) }
 {
     let mut address = [0u8; 16];
-    let mut i: usize = 0;
-    while i < 16 {
-        address[i] = f[at + i];
-        i += 1;
-    }
+    address.copy_from_slice(&f[at..at + 16]);
     address
 }
 
@@ -109,7 +97,7 @@ pub(crate) fn entry_at(f: &[u8], p: usize, body: usize) -> Listed
             port: read16(f, p + 28),
         },
         body,
-        end: body + read16(f, p + 30) as usize,
+        end: body + usize::from(read16(f, p + 30)),
     }
 }
 
@@ -119,29 +107,22 @@ fn bodies_end(f: &[u8], n: usize) -> usize
     ensures { result ≡ bodies_end f.now n (entry_place 0) (entry_place n) }
 {
     let mut end = entry_place(n);
-    let mut i: usize = 0;
-    while i < n {
-        end += read16(f, entry_place(i) + 30) as usize;
-        i += 1;
+    for i in 0..n {
+        end += usize::from(read16(f, entry_place(i) + 30));
     }
     end
 }
 
 // Whether 25 applies.
+#[tactic(auto, unfolding(crate::specs::Recording::is_bad_layout))]
 pub(crate) fn is_bad_layout(f: &[u8]) -> bool
     ensures { result ≡ is_bad_layout f.now }
 {
-    if RECORDING_LIMIT < f.len() {
-        return true;
-    }
-    if f.len() < HEAD_SIZE {
+    if RECORDING_LIMIT < f.len() || f.len() < HEAD_SIZE {
         return true;
     }
     let n = read32(f, 0) as usize;
-    if ENTRY_LIMIT < n {
-        return true;
-    }
-    if f.len() < entry_place(n) {
+    if ENTRY_LIMIT < n || f.len() < entry_place(n) {
         return true;
     }
     bodies_end(f, n) != f.len()

@@ -1,13 +1,12 @@
 -- Change request E2 of the calls of the reader: every answer is made of the datagram's check and its items, and of
 -- these the check alone knows whether reduced size was agreed.
 use Prim.Native.Nat.{ℕ}
+use Rattle.refusals.specs.declared.RefusalNumber.{RefusalNumber}
 use mathlib.Core.Path.{◌≡◌, ap}
 use mathlib.Core.List.{List}
 use mathlib.Core.Logic.{⊎_elim}
 use mathlib.Core.Bool.{true, false}
 use lib.ListN.{length}
-use native.Mathlib.Omega.{arith}
-use Rattle.refusals.specs.Refusals.{bad_first}
 use Rattle.packet.specs.Checks.{Check}
 use Rattle.datagram.specs.Datagram.{datagram_check, datagram_items}
 use Rattle.datagram.specs.Answers.{count_unless, item_count}
@@ -22,7 +21,7 @@ answers-alike : (d : List ℕ) → (NeedsReducedSize d → ⊥) → AnswersAlike
 unfolding item_count item_of cursor_on rows_answer rows_after
 answers-alike d h =
     let same : datagram_check true d ≡ datagram_check false d =
-    datagram-alike d (λ e. h (count-of-refused false d bad_first 0 e)) in
+    datagram-alike d (λ e. h (count-of-refused false d RefusalNumber.BadFirst 0 e)) in
     record {
       count = ap (λ (k : Check). count_unless k (length (datagram_items d))) same;
       item = λ index. ap (λ (k : Check). item_unless k (datagram_items d) index) same;
@@ -31,18 +30,18 @@ answers-alike d h =
       filled = λ lent. ap (λ (k : Check). filled_unless k (datagram_items d) lent) same;
     }
 
-abbrev NotFour : ℕ → Type 0
-NotFour number = number ≡ bad_first → ⊥
+abbrev NotFour : RefusalNumber → Type 0
+NotFour number = number ≡ RefusalNumber.BadFirst → ⊥
 
 no_call_four : (d : List ℕ) → NeverFour d
 no_call_four d =
     record {
       count = count-refusals NotFour true d (datagram_not_four d);
       item = λ index r e.
-          ⊎_elim (λ n. n) (λ nine four. omega arith) (item-refusals NotFour true d (datagram_not_four d) index r e);
+          ⊎_elim (λ n. n) (λ nine four. cc) (item-refusals NotFour true d (datagram_not_four d) index r e);
       cursor = cursor-refusals NotFour true d (datagram_not_four d);
       rows = λ lent r e.
-          ⊎_elim (λ n. n) (λ ten four. omega arith) (rows-refusals NotFour true d (datagram_not_four d) lent r e);
+          ⊎_elim (λ n. n) (λ ten four. cc) (rows-refusals NotFour true d (datagram_not_four d) lent r e);
     }
 
 -- Change request E2, for every datagram.

@@ -1,19 +1,18 @@
 -- The definitions at datagrams from the papers.
 use Prim.Native.Nat.{ℕ, ◌+◌, ◌*◌, ◌^◌}
+use Rattle.std.specs.Prelude.{Ok, Err}
+use Rattle.refusals.specs.declared.RefusalNumber.{RefusalNumber}
 use mathlib.Core.Path.{◌≡◌, refl}
 use mathlib.Core.Bool.{Bool, true, false}
 use mathlib.Core.List.{List, [], ◌∷◌, ◌++◌}
 use Rattle.idms.specs.declared.Report.{Report}
 use Rattle.idms.specs.declared.Settings.{Settings}
 use Rattle.idms.specs.declared.Item.{Item}
-use Rattle.idms.specs.declared.Found.{Found}
-use Rattle.refusals.specs.Refusals.{bad_length, bad_padding, bad_first, no_such_item}
 use Rattle.packet.specs.Bytes.{be16, be32, be64}
 use Rattle.packet_checks.specs.Header.{kind_of, first_is_bad}
 use Rattle.packet.specs.Packet.{padding_is_bad, content, head_check}
 use Rattle.packet.specs.Report.{block_check, report_at, block_items}
 use Rattle.packet.specs.Settings.{settings_at}
-use Rattle.datagram.specs.declared.Count.{Count}
 use Rattle.datagram.specs.Walk.{walking, walk}
 use Rattle.datagram.specs.Datagram.{packet_check, packet_items, datagram_check, datagram_items}
 use Rattle.datagram.specs.Answers.{refusal, item_count}
@@ -74,17 +73,17 @@ padded_bye = 0xA1 ∷ 0xCB ∷ 0 ∷ 2 ∷ 0 ∷ 0 ∷ 0 ∷ 10 ∷ 0 ∷ 0 ∷ 
 -- behind it; a padded BYE behind P5. Each is computed from the definitions.
 vectors :
     (reduced : Bool)
-    → (item_count reduced [] ≡ Count.Refused (refusal bad_length 0))
-    × (item_count reduced rr ≡ Count.Items 0)
-    × (item_of reduced rr 0 ≡ Found.Refused (refusal no_such_item 0))
-    × (item_of reduced (rr ++ p5) 0 ≡ Found.Item (record { place = 16; item = Item.Report p5_report }))
-    × (item_of reduced (rr ++ p3) 0 ≡ Found.Item (record { place = 8; item = Item.Settings p3_settings }))
-    × (item_count reduced (rr ++ p5 ++ p3) ≡ Count.Items 2)
-    × (item_of reduced (rr ++ p5 ++ p3) 1 ≡ Found.Item (record { place = 48; item = Item.Settings p3_settings }))
-    × (item_count reduced padded_bye ≡ Count.Refused (refusal bad_padding 0))
-    × (item_count false p5 ≡ Count.Refused (refusal bad_first 0))
-    × (item_of true p5 0 ≡ Found.Item (record { place = 8; item = Item.Report p5_report }))
-    × (item_of true (p3 ++ p5) 0 ≡ Found.Item (record { place = 0; item = Item.Settings p3_settings }))
-    × (item_of true (p5 ++ padded_bye) 1 ≡ Found.Item (record { place = 44; item = Item.Farewell 10 }))
+    → (item_count reduced [] ≡ Err (refusal RefusalNumber.BadLength 0))
+    × (item_count reduced rr ≡ Ok 0)
+    × (item_of reduced rr 0 ≡ Err (refusal RefusalNumber.NoSuchItem 0))
+    × (item_of reduced (rr ++ p5) 0 ≡ Ok (record { place = 16; item = Item.Report p5_report }))
+    × (item_of reduced (rr ++ p3) 0 ≡ Ok (record { place = 8; item = Item.Settings p3_settings }))
+    × (item_count reduced (rr ++ p5 ++ p3) ≡ Ok 2)
+    × (item_of reduced (rr ++ p5 ++ p3) 1 ≡ Ok (record { place = 48; item = Item.Settings p3_settings }))
+    × (item_count reduced padded_bye ≡ Err (refusal RefusalNumber.BadPadding 0))
+    × (item_count false p5 ≡ Err (refusal RefusalNumber.BadFirst 0))
+    × (item_of true p5 0 ≡ Ok (record { place = 8; item = Item.Report p5_report }))
+    × (item_of true (p3 ++ p5) 0 ≡ Ok (record { place = 0; item = Item.Settings p3_settings }))
+    × (item_of true (p5 ++ padded_bye) 1 ≡ Ok (record { place = 44; item = Item.Farewell 10 }))
 unfolding item_count item_of pick datagram_check datagram_items walk walking packet_check packet_items head_check padding_is_bad content kind_of first_is_bad block_check block_items report_at settings_at be16 be32 be64 rr p5 p5_report p3 p3_settings padded_bye
 vectors reduced = (refl, refl, refl, refl, refl, refl, refl, refl, refl, refl, refl, refl)

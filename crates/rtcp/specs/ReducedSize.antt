@@ -1,18 +1,16 @@
 -- Change request E2, for every datagram, over what the calls of the reader answer: 4 is given only where reduced-size
 -- RTCP was not agreed, and but for 4 the answers are the same whether or not it was.
 use Rattle.std.specs.Prelude.{ℕ, ◌≡◌, List, true, false}
+use Rattle.std.specs.Prelude.{Err}
+use Rattle.refusals.specs.declared.RefusalNumber.{RefusalNumber}
 use Rattle.idms.specs.declared.Refusal.{Refusal}
-use Rattle.idms.specs.declared.Found.{Found}
-use Rattle.refusals.specs.Refusals.{bad_first}
-use Rattle.datagram.specs.declared.Count.{Count}
 use Rattle.datagram.specs.Answers.{refusal, item_count}
-use Rattle.rtcp.specs.declared.cursor.Opened.{Opened}
 use Rattle.rtcp.specs.Answers.{item_of, cursor_on}
 use Rattle.rtcp.specs.Rows.{rows_answer, rows_after}
 
 -- the datagram gets 4 where reduced size was not agreed
 abbrev pub NeedsReducedSize : List ℕ → Type 0
-NeedsReducedSize d = item_count false d ≡ Count.Refused (refusal bad_first 0)
+NeedsReducedSize d = item_count false d ≡ Err (refusal RefusalNumber.BadFirst 0)
 
 -- each call answers the same whether or not reduced size was agreed, and leaves the same in the lent array
 pub record AnswersAlike (d : List ℕ) : Type 0 where
@@ -24,10 +22,10 @@ pub record AnswersAlike (d : List ℕ) : Type 0 where
 
 -- no call is refused with 4 where reduced size was agreed
 pub record NeverFour (d : List ℕ) : Type 0 where
-  pub count : (r : Refusal) → item_count true d ≡ Count.Refused r → r.number ≡ bad_first → ⊥
-  pub item : (index : ℕ) (r : Refusal) → item_of true d index ≡ Found.Refused r → r.number ≡ bad_first → ⊥
-  pub cursor : (r : Refusal) → cursor_on true d ≡ Opened.Refused r → r.number ≡ bad_first → ⊥
-  pub rows : (lent : List ℕ) (r : Refusal) → rows_answer true d lent ≡ Count.Refused r → r.number ≡ bad_first → ⊥
+  pub count : (r : Refusal) → item_count true d ≡ Err r → r.number ≡ RefusalNumber.BadFirst → ⊥
+  pub item : (index : ℕ) (r : Refusal) → item_of true d index ≡ Err r → r.number ≡ RefusalNumber.BadFirst → ⊥
+  pub cursor : (r : Refusal) → cursor_on true d ≡ Err r → r.number ≡ RefusalNumber.BadFirst → ⊥
+  pub rows : (lent : List ℕ) (r : Refusal) → rows_answer true d lent ≡ Err r → r.number ≡ RefusalNumber.BadFirst → ⊥
 
 -- the request, of every datagram
 pub record EveryDatagramRead : Type 0 where

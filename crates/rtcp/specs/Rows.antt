@@ -1,11 +1,12 @@
 -- All items of a datagram in an array of numbers, ten an item.
 use Rattle.std.specs.Prelude.{ℕ, ◌+◌, ◌*◌, ◌≤◌, ◌≡◌, List, ◌++◌, Bool, cond, length, drop, ltb}
+use Rattle.std.specs.Prelude.{Result, Ok, Err}
+use Rattle.idms.specs.declared.Refusal.{Refusal}
+use Rattle.refusals.specs.declared.RefusalNumber.{RefusalNumber}
 use Rattle.idms.specs.Rows.{row_of}
 use Rattle.idms.specs.declared.Placed.{Placed}
-use Rattle.refusals.specs.Refusals.{short_buffer}
 use Rattle.packet.specs.declared.contents.Packet.{Packet}
 use Rattle.packet.specs.Checks.{Check, passed, refused}
-use Rattle.datagram.specs.declared.Count.{Count}
 use Rattle.datagram.specs.Datagram.{datagram_check, datagram_items}
 use Rattle.datagram.specs.Answers.{refusal}
 use Rattle.rtcp.specs.Puts.{flat, puts}
@@ -23,10 +24,10 @@ abbrev pub too_short : ℕ → List ℕ → Bool
 too_short n rows = ltb (length rows) (10 * n)
 
 -- the answer: how many items, or the datagram's refusal, or 10 at place 0
-abbrev pub rows_unless : Check → List Placed → List ℕ → Count
-rows_unless (refused number place) items rows = Count.Refused (refusal number place)
+abbrev pub rows_unless : Check → List Placed → List ℕ → Result ℕ Refusal
+rows_unless (refused number place) items rows = Err (refusal number place)
 rows_unless passed items rows =
-    cond (too_short (length items) rows) (Count.Refused (refusal short_buffer 0)) (Count.Items (length items))
+    cond (too_short (length items) rows) (Err (refusal RefusalNumber.ShortBuffer 0)) (Ok (length items))
 
 -- the array afterwards: as before on any refusal; else the rows, and behind them what was there
 abbrev pub filled_unless : Check → List Placed → List ℕ → List ℕ
@@ -34,7 +35,7 @@ filled_unless (refused number place) items rows = rows
 filled_unless passed items rows =
     cond (too_short (length items) rows) rows (rows_of items ++ drop (10 * length items) rows)
 
-unfoldable pub rows_answer : Bool → List ℕ → List ℕ → Count
+unfoldable pub rows_answer : Bool → List ℕ → List ℕ → Result ℕ Refusal
 rows_answer reduced d rows = rows_unless (datagram_check reduced d) (datagram_items d) rows
 
 unfoldable pub rows_after : Bool → List ℕ → List ℕ → List ℕ
@@ -56,4 +57,3 @@ behind (Packet.Unread next) = next
 behind (Packet.Sources first stop next) = next
 behind (Packet.Blocks sender first stop next) = next
 behind (Packet.Settings next) = next
-behind Packet.Unreadable = 0

@@ -10,7 +10,7 @@ mod cursor;
 mod item;
 mod rows;
 
-pub use cursor::{Cursor, Opened, Step, first_cursor, next_item, open_datagram};
-pub use datagram::{Count, count_items};
+pub use cursor::{Cursor, first_cursor, next_item, open_datagram};
+pub use datagram::count_items;
 pub use item::item_at;
 pub use rows::read_items;

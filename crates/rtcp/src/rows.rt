@@ -9,26 +9,18 @@ ghost use Rattle.datagram.specs.Datagram.{source_items, blocks_check, blocks_ite
 ghost use Rattle.datagram.specs.Datagram.{datagram_check, datagram_items};
 ghost use Rattle.rtcp.specs.Rows.{put, HasRoom, ArePut, behind, rows_answer, rows_after};
 
-use datagram::{Count, count_items};
+use datagram::count_items;
 use idms::{Item, Placed, Refusal};
-use packet::{
-    BlockReport, Packet, PacketSettings, Source, block_at, packet_at, report_at, settings_at,
-    source_at,
-};
+use packet::{Packet, block_at, packet_at, report_at, settings_at, source_at};
 use packet_checks::Block;
-use refusals::SHORT_BUFFER;
+use refusals::RefusalNumber;
 
 // Puts an item's row at a cell.
 fn put_row(rows: &mut [u64], at: usize, x: Placed)
     requires { at + 10 ≤ length rows.old }
     ensures { rows.new ≡ paste rows.old at (row_of x) 10 }
 {
-    let cells = idms::row(x);
-    let mut i: usize = 0;
-    while i < 10 {
-        rows[at + i] = cells[i];
-        i += 1;
-    }
+    rows[at..at + 10].copy_from_slice(&idms::row(x));
 }
 
 // Puts a row for each source from a place up to a stop, and answers the cell behind them.
@@ -37,27 +29,12 @@ fn fill_sources(d: &[u8], rows: &mut [u64], at: usize, from: usize, stop: usize)
         × HasRoom rows.old at (source_items d.now stop from) }
     ensures { ArePut rows.old at (source_items d.now stop from) result rows.new }
 {
-    let mut k = from;
     let mut cell = at;
-    while k < stop {
-        match source_at(d, k, stop) {
-            Source::Outside => {
-                // Never reached: `stop` lies in the datagram.
-                return cell;
-            }
-            Source::Number(source) => {
-                put_row(
-                    rows,
-                    cell,
-                    Placed {
-                        place: k,
-                        item: Item::Farewell(source),
-                    },
-                );
-                cell += 10;
-                k += 4;
-            }
-        }
+    for place in (from..stop).step_by(4) {
+        // `stop` lies in the datagram, and whole words are left.
+        let item = Item::Farewell(source_at(d, place, stop).unwrap());
+        put_row(rows, cell, Placed { place, item });
+        cell += 10;
     }
     cell
 }
@@ -80,32 +57,17 @@ fn fill_blocks(
     let mut place = from;
     let mut cell = at;
     while place < stop {
-        match block_at(d, place, stop) {
-            Block::Refused(_) => {
-                // Never reached: the blocks have passed.
-                return cell;
-            }
+        // The blocks have passed, so each lies in the datagram.
+        match block_at(d, place, stop).unwrap() {
             Block::Skipped(bytes) => {
                 place += bytes;
             }
-            Block::Report => match report_at(d, sender, place) {
-                BlockReport::Outside => {
-                    // Never reached: the block lies in the datagram.
-                    return cell;
-                }
-                BlockReport::Fields(r) => {
-                    put_row(
-                        rows,
-                        cell,
-                        Placed {
-                            place,
-                            item: Item::Report(r),
-                        },
-                    );
-                    cell += 10;
-                    place += 32;
-                }
-            },
+            Block::Report => {
+                let item = Item::Report(report_at(d, sender, place).unwrap());
+                put_row(rows, cell, Placed { place, item });
+                cell += 10;
+                place += 32;
+            }
         }
     }
     cell
@@ -122,22 +84,12 @@ fn fill_packet(d: &[u8], rows: &mut [u64], at: usize, p: usize, x: Packet) -> us
         Packet::Unread(_) => at,
         Packet::Sources(first, stop, _) => fill_sources(d, rows, at, first, stop),
         Packet::Blocks(sender, first, stop, _) => fill_blocks(d, rows, at, sender, first, stop),
-        Packet::Settings(_) => match settings_at(d, p) {
-            // Never reached: the packet is readable.
-            PacketSettings::Outside => at,
-            PacketSettings::Fields(s) => {
-                put_row(
-                    rows,
-                    at,
-                    Placed {
-                        place: p,
-                        item: Item::Settings(s),
-                    },
-                );
-                at + 10
-            }
-        },
-        Packet::Unreadable => at,
+        Packet::Settings(_) => {
+            // The packet is readable, so they are there.
+            let item = Item::Settings(settings_at(d, p).unwrap());
+            put_row(rows, at, Placed { place: p, item });
+            at + 10
+        }
     }
 }
 
@@ -146,11 +98,10 @@ fn next_place(x: Packet) -> usize
     ensures { result ≡ behind x }
 {
     match x {
-        Packet::Unread(next) => next,
-        Packet::Sources(_, _, next) => next,
-        Packet::Blocks(_, _, _, next) => next,
-        Packet::Settings(next) => next,
-        Packet::Unreadable => 0,
+        Packet::Unread(next)
+        | Packet::Sources(_, _, next)
+        | Packet::Blocks(_, _, _, next)
+        | Packet::Settings(next) => next,
     }
 }
 
@@ -165,7 +116,8 @@ fn fill_rows(d: &[u8], rows: &mut [u64], n: usize)
     let mut p: usize = 0;
     let mut cell: usize = 0;
     while cell < end {
-        let x = packet_at(d, p);
+        // The packets have passed, so each is readable.
+        let x = packet_at(d, p).unwrap();
         cell = fill_packet(d, rows, cell, p, x);
         p = next_place(x);
     }
@@ -173,21 +125,17 @@ fn fill_rows(d: &[u8], rows: &mut [u64], n: usize)
 
 // Checks first and fills then: after any refusal, or where the array is too short, it is as before. `reduced` says
 // whether reduced size was agreed.
-pub fn read_items(d: &[u8], reduced: bool, rows: &mut [u64]) -> Count
+pub fn read_items(d: &[u8], reduced: bool, rows: &mut [u64]) -> Result<usize, Refusal>
     ensures { (result ≡ rows_answer reduced d.now rows.old)
         × (rows.new ≡ rows_after reduced d.now rows.old) }
 {
-    match count_items(d, reduced) {
-        Count::Refused(r) => Count::Refused(r),
-        Count::Items(n) => {
-            if rows.len() < 10 * n {
-                return Count::Refused(Refusal {
-                    number: SHORT_BUFFER,
-                    place: 0,
-                });
-            }
-            fill_rows(d, rows, n);
-            Count::Items(n)
-        }
+    let n = count_items(d, reduced)?;
+    if rows.len() < 10 * n {
+        return Err(Refusal {
+            number: RefusalNumber::ShortBuffer,
+            place: 0,
+        });
     }
+    fill_rows(d, rows, n);
+    Ok(n)
 }

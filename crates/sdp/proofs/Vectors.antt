@@ -1,15 +1,15 @@
 -- The example of RFC 7272, section 10, and the ends of document 02's ranges (E1), computed from the definitions.
 use Prim.Native.Nat.{ℕ}
+use Rattle.std.specs.Prelude.{Ok, Err}
+use Rattle.refusals.specs.declared.RefusalNumber.{RefusalNumber}
 use mathlib.Core.List.{List, []}
 use mathlib.Core.Path.{◌≡◌, refl}
-use Rattle.buffer.specs.declared.Written.{Written}
 use Rattle.buffer.specs.Buffer.{written}
-use Rattle.sdp.specs.declared.SyncGroup.{SyncGroup}
 use Rattle.sdp.specs.Digits.{is_digit, are_digits, value_of, digits_of, without_leading_zeros}
 use Rattle.sdp.specs.Line.{ascii, group_line, group_message}
 use Rattle.sdp.specs.Answers.{starts_with, keeps_grammar, group_in}
 
-pub example_read : group_in (ascii "a=rtcp-idms:sync-group=42\r\n") ≡ SyncGroup.Group 42
+pub example_read : group_in (ascii "a=rtcp-idms:sync-group=42\r\n") ≡ Ok 42
 unfolding is_digit are_digits value_of starts_with keeps_grammar group_in
 example_read = refl
 
@@ -25,26 +25,26 @@ pub greatest-written : group_line 4294967294 ≡ ascii "a=rtcp-idms:sync-group=4
 unfolding digits_of without_leading_zeros
 greatest-written = refl
 
-pub zeros-read : group_in (ascii "a=rtcp-idms:sync-group=0000000042\r\n") ≡ SyncGroup.Group 42
+pub zeros-read : group_in (ascii "a=rtcp-idms:sync-group=0000000042\r\n") ≡ Ok 42
 unfolding is_digit are_digits value_of starts_with keeps_grammar group_in
 zeros-read = refl
 
-pub reserved_refused : group_in (ascii "a=rtcp-idms:sync-group=4294967295\r\n") ≡ SyncGroup.Refused 22
+pub reserved_refused : group_in (ascii "a=rtcp-idms:sync-group=4294967295\r\n") ≡ Err RefusalNumber.BadGroup
 unfolding is_digit are_digits value_of starts_with keeps_grammar group_in
 reserved_refused = refl
 
-pub eleven_zeros_refused : group_in (ascii "a=rtcp-idms:sync-group=00000000000\r\n") ≡ SyncGroup.Refused 22
+pub eleven_zeros_refused : group_in (ascii "a=rtcp-idms:sync-group=00000000000\r\n") ≡ Err RefusalNumber.BadGroup
 unfolding is_digit are_digits value_of starts_with keeps_grammar group_in
 eleven_zeros_refused = refl
 
-pub line_feed_refused : group_in (ascii "a=rtcp-idms:sync-group=42\n") ≡ SyncGroup.Refused 21
+pub line_feed_refused : group_in (ascii "a=rtcp-idms:sync-group=42\n") ≡ Err RefusalNumber.BadLine
 unfolding is_digit are_digits value_of starts_with keeps_grammar group_in
 line_feed_refused = refl
 
-pub nothing_refused : group_in [] ≡ SyncGroup.Refused 21
+pub nothing_refused : group_in [] ≡ Err RefusalNumber.BadLine
 unfolding starts_with keeps_grammar group_in
 nothing_refused = refl
 
 -- the writer, whatever the buffer
-pub reserved_unwritten : (buf : List ℕ) → written (group_message 4294967295) buf ≡ Written.Refused 22
+pub reserved_unwritten : (buf : List ℕ) → written (group_message 4294967295) buf ≡ Err RefusalNumber.BadGroup
 reserved_unwritten buf = refl

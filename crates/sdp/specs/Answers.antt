@@ -1,8 +1,8 @@
--- What the reader of the line answers, as tests in the order of the code, whose contract cites this. It needs no belief:
--- Grammar says what the answers mean. A refusal is its number alone; its place is 0 (prunepocket SiteFile).
+-- What the reader of the line answers, as tests in the order of the code, whose contract cites this. It needs no
+-- belief: Grammar says what the answers mean. A refusal is its number alone; its place is 0 (prunepocket SiteFile).
 use Rattle.std.specs.Prelude.{ℕ, ◌+◌, ◌-◌, Bool, true, false, cond, ◌&&◌, ◌||◌, List, [], ◌∷◌, length, drop, ltb, eqb}
-use Rattle.refusals.specs.Refusals.{bad_line, bad_group}
-use Rattle.sdp.specs.declared.SyncGroup.{SyncGroup}
+use Rattle.std.specs.Prelude.{Result, Ok, Err}
+use Rattle.refusals.specs.declared.RefusalNumber.{RefusalNumber}
 use Rattle.sdp.specs.Digits.{are_digits, value_of}
 use Rattle.sdp.specs.Line.{prefix, crlf, digits_in, greatest_group, most_digits}
 
@@ -29,8 +29,8 @@ abbrev pub is_bad_group : List ℕ → Bool
 is_bad_group digits = are_too_many digits || ltb greatest_group (value_of digits)
 
 -- The group number of a line: 21 where the grammar is not kept, then 22.
-unfoldable pub group_in : List ℕ → SyncGroup
+unfoldable pub group_in : List ℕ → Result ℕ RefusalNumber
 group_in d =
     cond (keeps_grammar d)
-    (cond (is_bad_group (digits_in d)) (SyncGroup.Refused bad_group) (SyncGroup.Group (value_of (digits_in d))))
-    (SyncGroup.Refused bad_line)
+    (cond (is_bad_group (digits_in d)) (Err RefusalNumber.BadGroup) (Ok (value_of (digits_in d))))
+    (Err RefusalNumber.BadLine)

@@ -1,8 +1,8 @@
 -- What each answer of the reader says of a line, in the words of document 02 (E1) and without a way to read it. That
 -- the reader's answers say so, and no others do, is proved (proofs/Theorems.antt, `read_says` and `says_read`).
 use Rattle.std.specs.Prelude.{ℕ, ◌≤◌, ◌<◌, ◌≡◌, true, List, ◌⊎◌, length}
-use Rattle.refusals.specs.Refusals.{bad_line, bad_group}
-use Rattle.sdp.specs.declared.SyncGroup.{SyncGroup}
+use Rattle.std.specs.Prelude.{Result, Ok, Err}
+use Rattle.refusals.specs.declared.RefusalNumber.{RefusalNumber}
 use Rattle.sdp.specs.Digits.{are_digits, value_of}
 use Rattle.sdp.specs.Line.{sdp_line, greatest_group, most_digits}
 
@@ -26,6 +26,7 @@ GivesNoGroup d =
     (digits : List ℕ) × IsSdpLine d digits × ((most_digits < length digits) ⊎ (greatest_group < value_of digits))
 
 -- what each answer of the reader says of a line
-abbrev pub LineSays : List ℕ → SyncGroup → Type 0
-LineSays d (SyncGroup.Group group) = (digits : List ℕ) × IsSdpLine d digits × GivesGroup digits group
-LineSays d (SyncGroup.Refused number) = ((number ≡ bad_line) × NoSdpLine d) ⊎ ((number ≡ bad_group) × GivesNoGroup d)
+abbrev pub LineSays : List ℕ → Result ℕ RefusalNumber → Type 0
+LineSays d (Ok group) = (digits : List ℕ) × IsSdpLine d digits × GivesGroup digits group
+LineSays d (Err number) =
+    ((number ≡ RefusalNumber.BadLine) × NoSdpLine d) ⊎ ((number ≡ RefusalNumber.BadGroup) × GivesNoGroup d)

@@ -6,10 +6,10 @@
 --
 -- To ABNF upper and lower case are one; document 02 takes lower case alone. SyncGroupId 0 is the empty group.
 use Rattle.std.specs.Prelude.{ℕ, ◌-◌, List, [], ◌∷◌, ◌++◌, length, ltb}
+use Rattle.refusals.specs.declared.RefusalNumber.{RefusalNumber}
 use Prim.Native.Char.{code}
 use Prim.Native.String.{String, [] as empty, ◌∷◌ as ◌then◌}
 use Rattle.std.proofs.Math.Seq.{slice}
-use Rattle.refusals.specs.Refusals.{bad_group}
 use Rattle.buffer.specs.Buffer.{Message}
 use Rattle.sdp.specs.Digits.{digits_of, without_leading_zeros}
 
@@ -46,7 +46,8 @@ group_line group = sdp_line (without_leading_zeros (digits_of most_digits group)
 -- The line as a message: 22 for a number above the greatest, then 10 (buffer Buffer). The place is 0 (prunepocket
 -- Messages).
 abbrev pub group_message : ℕ → Message
-group_message group = record { unwritable = ltb greatest_group group; number = bad_group; bytes = group_line group }
+group_message group =
+    record { unwritable = ltb greatest_group group; number = RefusalNumber.BadGroup; bytes = group_line group }
 
 -- a line with its leading zeros gone
 abbrev pub line_without_leading_zeros : List ℕ → List ℕ

@@ -1,22 +1,13 @@
 // The line of a site file that carries a group number: `a=rtcp-idms:sync-group=42` CR LF (RFC 7272, section 10).
 #![tactic(auto)]
 
-ghost use Rattle.std.specs.Prelude.{◌≡◌, ◌+◌, ◌-◌, ◌≤◌, ◌<◌, true, ◌++◌, length, drop};
-ghost use Rattle.std.proofs.Math.Seq.{paste, slice};
+ghost use Rattle.std.specs.Prelude.{◌≡◌, ◌≤◌, true, false, ◌++◌, length, drop, MatchOption};
 ghost use Rattle.buffer.specs.Buffer.{WroteMessage};
-ghost use Rattle.sdp.specs.Digits.{is_digit, are_digits, value_of, digits_of, without_leading_zeros};
-ghost use Rattle.sdp.specs.Line.{most_digits, sdp_line, group_message};
-ghost use Rattle.sdp.specs.Answers.{starts_with, keeps_grammar, group_in};
+ghost use Rattle.sdp.specs.Digits.{are_digits, value_of, digits_of, without_leading_zeros};
+ghost use Rattle.sdp.specs.Line.{most_digits, sdp_line, digits_in, group_message};
+ghost use Rattle.sdp.specs.Answers.{keeps_grammar, group_in};
 
-use buffer::Written;
-use refusals::{BAD_GROUP, BAD_LINE, SHORT_BUFFER};
-
-// What the reader answers: the group number, or the number of its refusal.
-#[derive(Clone, Copy)]
-pub enum SyncGroup {
-    Group(u32),
-    Refused(u64),
-}
+use refusals::RefusalNumber;
 
 // What stands before the digits.
 const PREFIX: [u8; 23] = *b"a=rtcp-idms:sync-group=";
@@ -29,94 +20,43 @@ const MOST_DIGITS: usize = 10;
 // The number above it is reserved.
 const GREATEST_GROUP: u64 = 4294967294;
 
-// Whether these bytes stand in a line from a place on.
-fn stands_at(line: &[u8], at: usize, bytes: &[u8]) -> bool
-    requires { at + length bytes.now ≤ length line.now }
-    ensures { result ≡ starts_with bytes.now (drop at line.now) }
+// The digits of a line that keeps the grammar, however many there are.
+fn digits_in(line: &[u8]) -> Option<&[u8]>
+    ensures { MatchOption result (keeps_grammar line.now ≡ false)
+        (λ digits. (keeps_grammar line.now ≡ true) × (digits.now ≡ digits_in line.now)) }
 {
-    let mut i = 0;
-    while i < bytes.len() {
-        if line[at + i] != bytes[i] {
-            return false;
-        }
-        i += 1;
+    let digits = line.strip_prefix(&PREFIX)?.strip_suffix(&CRLF)?;
+    if digits.is_empty() || !digits.iter().all(|b| b.is_ascii_digit()) {
+        return None;
     }
-    true
-}
-
-fn is_digit(b: u8) -> bool
-    ensures { result ≡ is_digit b }
-{
-    if b < b'0' {
-        return false;
-    }
-    b <= b'9'
-}
-
-// Whether a line has digits alone from one place up to another.
-fn are_digits(line: &[u8], from: usize, to: usize) -> bool
-    requires { (from ≤ to) × (to ≤ length line.now) }
-    ensures { result ≡ are_digits (slice from to line.now) }
-{
-    let mut i = from;
-    while i < to {
-        if !is_digit(line[i]) {
-            return false;
-        }
-        i += 1;
-    }
-    true
+    Some(digits)
 }
 
 // The number that at most ten digits spell.
-fn value_at(line: &[u8], from: usize, to: usize) -> u64
-    requires { (from ≤ to) × (to ≤ length line.now) × (to - from ≤ most_digits)
-        × (are_digits (slice from to line.now) ≡ true) }
-    ensures { result ≡ value_of (slice from to line.now) }
+fn value_of(digits: &[u8]) -> u64
+    requires { (length digits.now ≤ most_digits) × (are_digits digits.now ≡ true) }
+    ensures { result ≡ value_of digits.now }
 {
     let mut n: u64 = 0;
-    let mut i = from;
-    while i < to {
-        n = n * 10 + ((line[i] - b'0') as u64);
-        i += 1;
+    for digit in digits {
+        n = n * 10 + u64::from(*digit - b'0');
     }
     n
 }
 
-// Whether a line keeps the grammar, however many digits it has.
-fn keeps_grammar(line: &[u8]) -> bool
-    ensures { result ≡ keeps_grammar line.now }
-{
-    if line.len() <= PREFIX.len() + CRLF.len() {
-        return false;
-    }
-    if !stands_at(line, 0, &PREFIX) {
-        return false;
-    }
-    let end = line.len() - CRLF.len();
-    if !stands_at(line, end, &CRLF) {
-        return false;
-    }
-    are_digits(line, PREFIX.len(), end)
-}
-
 // Reads the group number of a line, which is the whole slice, or refuses with 21, then 22.
-pub fn read_sync_group(line: &[u8]) -> SyncGroup
+pub fn read_sync_group(line: &[u8]) -> Result<u32, RefusalNumber>
     ensures { result ≡ group_in line.now }
 {
-    let bad_line = !keeps_grammar(line);
-    let too_many = PREFIX.len() + MOST_DIGITS + CRLF.len() < line.len();
-    if bad_line {
-        return SyncGroup::Refused(BAD_LINE);
+    let digits = digits_in(line).ok_or(RefusalNumber::BadLine)?;
+    if MOST_DIGITS < digits.len() {
+        return Err(RefusalNumber::BadGroup);
     }
-    if too_many {
-        return SyncGroup::Refused(BAD_GROUP);
-    }
-    let group = value_at(line, PREFIX.len(), line.len() - CRLF.len());
+    let group = value_of(digits);
     if GREATEST_GROUP < group {
-        return SyncGroup::Refused(BAD_GROUP);
+        return Err(RefusalNumber::BadGroup);
     }
-    SyncGroup::Group(group as u32)
+    Ok(group as u32)
 }
 
 // A number in ten digits.
@@ -125,40 +65,19 @@ fn ten_digits(n: u32) -> [u8; MOST_DIGITS]
 {
     let mut digits = [b'0'; MOST_DIGITS];
     let mut rest = n;
-    let mut i = MOST_DIGITS;
-    while 0 < i {
-        i -= 1;
-        digits[i] = b'0' + ((rest % 10) as u8);
+    for i in (0..MOST_DIGITS).rev() {
+        digits[i] = b'0' + (rest % 10) as u8;
         rest /= 10;
     }
     digits
 }
 
-// How many leading zeros there are: the last digit is kept, whatever it is.
-fn leading_zeros(digits: [u8; MOST_DIGITS]) -> usize
-    ensures { (result < most_digits) × (drop result digits ≡ without_leading_zeros digits) }
+// The digits from the first on that is no zero; the last is kept, whatever it is.
+fn without_leading_zeros(digits: &[u8; MOST_DIGITS]) -> &[u8]
+    ensures { result.now ≡ without_leading_zeros digits.now }
 {
-    let mut i = 0;
-    while i < MOST_DIGITS - 1 {
-        if digits[i] != b'0' {
-            return i;
-        }
-        i += 1;
-    }
-    i
-}
-
-// Puts bytes at a place.
-fn put_bytes(buf: &mut [u8], at: usize, bytes: &[u8])
-    requires { at + length bytes.now ≤ length buf.old }
-    ensures { (length buf.new ≡ length buf.old)
-        × (buf.new ≡ paste buf.old at bytes.now (length bytes.now)) }
-{
-    let mut i = 0;
-    while i < bytes.len() {
-        buf[at + i] = bytes[i];
-        i += 1;
-    }
+    let zeros = digits.iter().take_while(|b| **b == b'0').count();
+    &digits[zeros.min(MOST_DIGITS - 1)..]
 }
 
 // Puts the line with these digits at the front.
@@ -167,26 +86,25 @@ fn put_line(buf: &mut [u8], digits: &[u8])
     ensures { buf.new ≡ sdp_line digits.now
         ++ drop (length (sdp_line digits.now)) buf.old }
 {
-    put_bytes(buf, 0, &PREFIX);
-    put_bytes(buf, PREFIX.len(), digits);
-    put_bytes(buf, PREFIX.len() + digits.len(), &CRLF);
+    let end = PREFIX.len() + digits.len();
+    buf[..PREFIX.len()].copy_from_slice(&PREFIX);
+    buf[PREFIX.len()..end].copy_from_slice(digits);
+    buf[end..end + CRLF.len()].copy_from_slice(&CRLF);
 }
 
 // Writes the line of a group number without leading zeros, or refuses with 22, then 10, and writes nothing.
-pub fn write_sync_group(group: u32, buf: &mut [u8]) -> Written
+pub fn write_sync_group(group: u32, buf: &mut [u8]) -> Result<usize, RefusalNumber>
     ensures { WroteMessage (group_message group) buf.old result buf.new }
 {
-    let reserved = GREATEST_GROUP < (group as u64);
+    if GREATEST_GROUP < u64::from(group) {
+        return Err(RefusalNumber::BadGroup);
+    }
     let digits = ten_digits(group);
-    let zeros = leading_zeros(digits);
-    let length = PREFIX.len() + MOST_DIGITS - zeros + CRLF.len();
-    let short = buf.len() < length;
-    if reserved {
-        return Written::Refused(BAD_GROUP);
+    let digits = without_leading_zeros(&digits);
+    let length = PREFIX.len() + digits.len() + CRLF.len();
+    if buf.len() < length {
+        return Err(RefusalNumber::ShortBuffer);
     }
-    if short {
-        return Written::Refused(SHORT_BUFFER);
-    }
-    put_line(buf, &digits[zeros..]);
-    Written::Bytes(length)
+    put_line(buf, digits);
+    Ok(length)
 }

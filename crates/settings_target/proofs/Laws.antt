@@ -1,28 +1,32 @@
 -- What a packet that no check refuses is known by, and its lateness in one word.
 use Prim.Native.Nat.{ℕ, ◌+◌, ◌*◌, ◌^◌, ◌≤◌, ◌<◌}
-use mathlib.Core.Bool.{Bool, true, false, not, cond, ◌||◌, true≢false}
+use mathlib.Core.Bool.{Bool, true, false, not, ◌||◌, true≢false}
 use mathlib.Core.Path.{◌≡◌, refl, sym, ap, subst, ◌∙◌}
 use lib.Dec.{ltb, eqb}
 use lib.IntN.{ℤ, pos, sub_ℕ, ◌-ℤ◌}
 use lib.Signed.{lt_z, mag}
 use native.Mathlib.Nat.{mul-le-mul}
 use native.Mathlib.Omega.{arith}
-use borrow.Author.Tests.{ltb-false, le-leb, eq-eqb, ne_eqb}
+use borrow.Author.Tests.{ltb-false, le-leb}
 use mir.Facts.{to_z-of_z, to_z_pos}
 use mir.Syntax.{w64}
 use mir.Val.{SFits, to_z, of_z}
-use Rattle.refusals.specs.Refusals.{bad_opening, other_stream, received_far, rtp_aged, badly_presented}
+use Rattle.std.specs.Prelude.{Result, Ok, Err}
+use Rattle.std.specs.Result.{result_and}
+use Rattle.refusals.specs.declared.RefusalNumber.{RefusalNumber}
+use Rattle.refusals.specs.Refusals.{answer_number}
+use Rattle.refusals.proofs.Laws.{number_positive}
 use Rattle.idms.specs.declared.Settings.{Settings}
 use Rattle.times.specs.Times.{ntp_age, rtp_age, settings_delay, is_far, is_aged}
 use Rattle.register.specs.declared.Reading.{Reading}
-use Rattle.register.specs.Register.{Opening, is_refused_opening, is_other_stream}
+use Rattle.register.specs.declared.Opening.{Opening}
+use Rattle.register.specs.Register.{is_refused_opening, is_other_stream}
 use Rattle.register.specs.Choosing.{delay_between, lateness, times_lateness}
 use Rattle.register.proofs.Order.{lateness-sub_ℕ}
 use Rattle.register.proofs.SettingsCheck.{passed}
 use Rattle.integers.proofs.Laws.{lt_z_not_le_z, le_z-sub_ℕ, pos_minus}
 use Rattle.playout.specs.PlayoutClock.{is_outside}
-use Rattle.settings_target.specs.TargetLateness.{target_is_badly_presented, target_checks, lateness_answered}
-use Rattle.settings_target.specs.declared.LatenessAnswered.{LatenessAnswered}
+use Rattle.settings_target.specs.TargetLateness.{target_is_badly_presented, target_checks, lateness_asked, number_answered, late_answered}
 
 or_false : (s t : Bool) → (s || t) ≡ false → (s ≡ false) × (t ≡ false)
 or_false true t e = (e, absurd (true≢false e))
@@ -51,15 +55,15 @@ pub record PassedTarget (o : Opening) (s : Settings) (at : Reading) : Type 0 whe
   pub recent : rtp_age at.rtp s.rtp ≤ 60 * o.rate
   pub short : delay_between s.received s.presented ≤ 30 * 2 ^ 32
 
-pub passed-target : (o : Opening) (s : Settings) (at : Reading) → target_checks o s at ≡ 0 → PassedTarget o s at
+pub passed-target : (o : Opening) (s : Settings) (at : Reading) → target_checks o s at ≡ Ok tt → PassedTarget o s at
 unfolding target_checks
 passed-target o s at e =
-    let past12 : _ = passed (is_refused_opening o) bad_opening _ (omega arith) e in
-    let past13 : _ = passed (is_other_stream o s.group s.media) other_stream _ (omega arith) past12.1 in
-    let past15 : _ = passed (is_far at.ntp s.received) received_far _ (omega arith) past13.1 in
-    let past16 : _ = passed (is_aged o.rate at.rtp s.rtp) rtp_aged _ (omega arith) past15.1 in
+    let past12 : _ = passed (is_refused_opening o) RefusalNumber.BadOpening _ e in
+    let past13 : _ = passed (is_other_stream o s.group s.media) RefusalNumber.OtherStream _ past12.1 in
+    let past15 : _ = passed (is_far at.ntp s.received) RefusalNumber.ReceivedFar _ past13.1 in
+    let past16 : _ = passed (is_aged o.rate at.rtp s.rtp) RefusalNumber.RtpAged _ past15.1 in
     let past17 : _ =
-    passed (target_is_badly_presented s.received s.presented) badly_presented 0 (omega arith) past16.1 in
+    passed (target_is_badly_presented s.received s.presented) RefusalNumber.BadlyPresented _ past16.1 in
     record {
       rate =
           ltb-false 192000 o.rate
@@ -133,37 +137,36 @@ module _
         ∙ ap (λ (z : ℤ). pos (rate * delay + ticks * 2 ^ 32) -ℤ z) (to_z_pos w64 {n = rate * age} (omega (arith, earlier)))
         ∙ in_word
 
--- ---- the answer
+-- ---- the answer, by its checks
 
-module _ (o : Opening) (s : Settings) (at : Reading) (n : ℕ) (said : n ≡ target_checks o s at) where
-  pub answers-refused :
-      (n ≡ 0 → ⊥) → ◌≡◌ {A = LatenessAnswered} (record { number = n; lateness = pos 0 }) (lateness_answered o s at)
-  answers-refused some =
-      let zero : pos 0 ≡ (lateness_answered o s at).lateness =
-      sym
-      (ap (λ (t : Bool). cond t (times_lateness o at s.received s.rtp s.presented) (pos 0))
-      (ne_eqb (target_checks o s at) 0 (λ e. some (said ∙ e)))) in
-      λ i. record { number = said i; lateness = zero i }
+pub number_by :
+    (checked : Result Unit RefusalNumber) (z : ℤ) → number_answered (result_and checked (Ok z)) ≡ answer_number checked
+number_by (Ok passed) z = refl
+number_by (Err refused) z = refl
 
-  -- the code reads its result back
-  pub answers-accepted :
-      n ≡ 0 → (wait age ticks : ℕ) → wait ≡ delay_between s.received s.presented →
-      age ≡ ntp_age at.ntp s.received → ticks ≡ rtp_age at.rtp s.rtp →
-      (z : ℤ) → z ≡ lateness o.rate wait age ticks →
-      ◌≡◌ {A = LatenessAnswered} (record { number = n; lateness = to_z w64 (of_z w64 z) }) (lateness_answered o s at)
-  answers-accepted none wait age ticks is-wait is-age is-ticks z e =
-      let p = passed-target o s at (sym said ∙ none) in
-      let is : z ≡ times_lateness o at s.received s.rtp s.presented =
-      e
-      ∙ ap (λ (w : ℕ). lateness o.rate w age ticks) is-wait
-      ∙ ap (λ (a : ℕ). lateness o.rate (delay_between s.received s.presented) a ticks) is-age
-      ∙ ap (lateness o.rate (delay_between s.received s.presented) (ntp_age at.ntp s.received)) is-ticks in
-      let fits : SFits w64 z =
-      subst (SFits w64) (sym is) (lateness_fits o.rate _ _ _ p.rate p.short p.near p.recent) in
-      let same : to_z w64 (of_z w64 z) ≡ (lateness_answered o s at).lateness =
-      to_z-of_z {w = w64} fits
-      ∙ is
-      ∙ sym
-      (ap (λ (t : Bool). cond t (times_lateness o at s.received s.rtp s.presented) (pos 0))
-      (eq-eqb (target_checks o s at) 0 (sym said ∙ none))) in
-      λ i. record { number = said i; lateness = same i }
+pub late-accepted :
+    (checked : Result Unit RefusalNumber) (z : ℤ) → answer_number checked ≡ 0 →
+    late_answered (result_and checked (Ok z)) ≡ z
+late-accepted (Ok passed) z e = refl
+late-accepted (Err refused) z e = absurd (number_positive refused e)
+
+pub late-refused :
+    (checked : Result Unit RefusalNumber) (z : ℤ) → (answer_number checked ≡ 0 → ⊥) →
+    late_answered (result_and checked (Ok z)) ≡ pos 0
+late-refused (Ok passed) z some = absurd (some refl)
+late-refused (Err refused) z some = refl
+
+-- the code reads its result back
+pub lateness-asked :
+    (o : Opening) (s : Settings) (at : Reading) → target_checks o s at ≡ Ok tt → (wait age ticks : ℕ) →
+    wait ≡ delay_between s.received s.presented → age ≡ ntp_age at.ntp s.received → ticks ≡ rtp_age at.rtp s.rtp →
+    (z : ℤ) → z ≡ lateness o.rate wait age ticks → Ok (to_z w64 (of_z w64 z)) ≡ lateness_asked o s at
+lateness-asked o s at none wait age ticks is-wait is-age is-ticks z e =
+    let p = passed-target o s at none in
+    let is : z ≡ times_lateness o at s.received s.rtp s.presented =
+    e
+    ∙ ap (λ (w : ℕ). lateness o.rate w age ticks) is-wait
+    ∙ ap (λ (a : ℕ). lateness o.rate (delay_between s.received s.presented) a ticks) is-age
+    ∙ ap (lateness o.rate (delay_between s.received s.presented) (ntp_age at.ntp s.received)) is-ticks in
+    let fits : SFits w64 z = subst (SFits w64) (sym is) (lateness_fits o.rate _ _ _ p.rate p.short p.near p.recent) in
+    rw none (ap Ok (to_z-of_z {w = w64} fits ∙ is))

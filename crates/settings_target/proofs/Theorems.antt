@@ -1,14 +1,16 @@
 -- What the answer to a settings packet means for a loudspeaker.
-use mathlib.Core.Bool.{Bool, false, cond, false≢true}
+use mathlib.Core.Bool.{false, false≢true}
 use mathlib.Core.List.{[], ◌∷◌}
 use mathlib.Core.Logic.{◌⊎◌, inl, inr}
 use mathlib.Core.Path.{◌≡◌, refl, sym, ap, ◌∙◌}
-use lib.IntN.{pos}
-use borrow.Author.Tests.{eq-eqb, ne_eqb}
+use lib.IntN.{ℤ}
 use Rattle.idms.specs.declared.Settings.{Settings}
 use Rattle.times.specs.Times.{is_far, is_aged}
 use Rattle.register.specs.declared.Reading.{Reading}
-use Rattle.register.specs.Register.{Opening, is_refused_opening, is_other_stream}
+use Rattle.refusals.specs.Refusals.{answer_number}
+use Rattle.refusals.proofs.Laws.{answer_none, number_first}
+use Rattle.register.specs.declared.Opening.{Opening}
+use Rattle.register.specs.Register.{is_refused_opening, is_other_stream}
 use Rattle.register.specs.Choosing.{times_lateness}
 use Rattle.register.specs.Letter.{NoneOf, MeansBehind, Means}
 use Rattle.register.proofs.Letter.Lines.{Tells, tells_equal, tells_less, tells_not, tells_and, tells_or, first_means}
@@ -16,9 +18,9 @@ use Rattle.register.proofs.Letter.Tests.{tells_bad_opening}
 use Rattle.playout.specs.PlayoutClock.{ClockCall, is_outside}
 use Rattle.playout.specs.OnTarget.{Outside}
 use Rattle.playout.proofs.Theorems.{outside_test, every_clock_call}
-use Rattle.settings_target.specs.TargetLateness.{target_is_badly_presented, target_checks, lateness_answered}
-use Rattle.settings_target.specs.TargetPromise.{TargetBadlyPresented, target_lines, EveryTarget}
-use Rattle.settings_target.proofs.Laws.{passed-target, lateness_inside}
+use Rattle.settings_target.specs.TargetLateness.{target_is_badly_presented, target_checks, lateness_asked, late_answered}
+use Rattle.settings_target.specs.TargetPromise.{TargetBadlyPresented, target_lines, TargetMeans, EveryTarget}
+use Rattle.settings_target.proofs.Laws.{passed-target, lateness_inside, number_by, late-accepted, late-refused}
 
 -- where presented is not 0, the check of settings asks for no more than the delay
 tells_badly_presented :
@@ -41,10 +43,11 @@ tells_badly_presented s =
     with_empty (inr r) = inr r
 
 module _ (o : Opening) (s : Settings) (at : Reading) where
-  target-refusals : Means (target_lines o s at) (target_checks o s at)
+  target-refusals : Means (target_lines o s at) (answer_number (target_checks o s at))
   unfolding target_checks NoneOf MeansBehind
   target-refusals =
-      first_means (target_lines o s at)
+      simp number_first
+      (first_means (target_lines o s at)
       (is_refused_opening o
       ∷ is_other_stream o s.group s.media
       ∷ is_far at.ntp s.received
@@ -57,37 +60,38 @@ module _ (o : Opening) (s : Settings) (at : Reading) where
           (tells_less _ _, (tells_less _ _, (tells_badly_presented s, tt))),
         ),
       )
-      refl
+      refl)
 
-  accepted :
-      target_checks o s at ≡ 0 →
-      (lateness_answered o s at).lateness ≡ times_lateness o at s.received s.rtp s.presented
-  accepted e =
-      ap (λ (t : Bool). cond t (times_lateness o at s.received s.rtp s.presented) (pos 0))
-      (eq-eqb (target_checks o s at) 0 e)
+  abbrev asked : ℤ
+  asked = times_lateness o at s.received s.rtp s.presented
 
-  inside : target_checks o s at ≡ 0 → is_outside (lateness_answered o s at).lateness ≡ false
+  abbrev late : ℤ
+  late = late_answered (lateness_asked o s at)
+
+  inside : answer_number (target_checks o s at) ≡ 0 → is_outside late ≡ false
   inside e =
-      let p = passed-target o s at e in
-      ap is_outside (accepted e) ∙ lateness_inside o.rate _ _ _ p.rate p.short p.near p.recent
+      let p = passed-target o s at (answer_none (target_checks o s at) e) in
+      ap is_outside (late-accepted (target_checks o s at) asked e)
+      ∙ lateness_inside o.rate _ _ _ p.rate p.short p.near p.recent
 
-  in_range : target_checks o s at ≡ 0 → Outside (lateness_answered o s at).lateness → ⊥
-  in_range e out = false≢true (sym (inside e) ∙ (outside_test (lateness_answered o s at).lateness).1 out)
+  in_range : answer_number (target_checks o s at) ≡ 0 → Outside late → ⊥
+  in_range e out = false≢true (sym (inside e) ∙ (outside_test late).1 out)
+
+  -- of the checks' number, which is the number that is answered
+  means_by : TargetMeans o s at (answer_number (target_checks o s at)) late
+  means_by =
+      record {
+        refusals = target-refusals;
+        accepted = late-accepted (target_checks o s at) asked;
+        refused = late-refused (target_checks o s at) asked;
+        in_range = in_range;
+        settable = λ e c step current.
+            (every_clock_call c (ClockCall.set late)).accepted.1 (step, neither current (in_range e));
+      }
+    where
+      neither : {P Q : Type 0} → (P → ⊥) → (Q → ⊥) → P ⊎ Q → ⊥
+      neither p q (inl h) = p h
+      neither p q (inr h) = q h
 
 pub every_target : EveryTarget
-every_target o s at =
-    record {
-      refusals = target-refusals o s at;
-      accepted = accepted o s at;
-      refused = λ some.
-          ap (λ (t : Bool). cond t (times_lateness o at s.received s.rtp s.presented) (pos 0))
-          (ne_eqb (target_checks o s at) 0 some);
-      in_range = in_range o s at;
-      settable = λ e c step current.
-          (every_clock_call c (ClockCall.set (lateness_answered o s at).lateness)).accepted.1
-          (step, neither current (in_range o s at e));
-    }
-  where
-    neither : {P Q : Type 0} → (P → ⊥) → (Q → ⊥) → P ⊎ Q → ⊥
-    neither p q (inl h) = p h
-    neither p q (inr h) = q h
+every_target o s at = rw (number_by (target_checks o s at) (asked o s at)) (means_by o s at)

@@ -3,16 +3,24 @@
 // records.
 #![tactic(auto)]
 
-mod input;
 mod print;
 mod records;
 
-use crate::input::read_full;
 use crate::print::print_datagram;
 use crate::records::run_cases;
+use input::read_full;
 use std::env::FillError;
 use std::io;
 use std::rt::Env;
+
+// What the arguments ask for.
+#[derive(Clone, Copy)]
+enum Request {
+    // The items of a datagram, and whether reduced size was agreed.
+    Show { reduced: bool },
+    // The cases that standard input holds as records.
+    Run,
+}
 
 fn show_input(rt: &(impl Input + Print), reduced: bool) -> io::Result<()> {
     // Longer than any datagram that is not refused, so a part of a longer one gets the whole one's refusal.
@@ -28,32 +36,33 @@ fn run_input(rt: &(impl Input + Print)) -> io::Result<()> {
     run_cases(rt, &buf[..n])
 }
 
-// Whether there is an argument at an index. The program's own name is at 0.
-fn is_given(rt: &impl Env, index: usize) -> bool {
-    let mut argument = [0u8; 1];
-    match rt.arg(index, &mut argument) {
-        Ok(_) | Err(FillError::TooLong) => true,
-        Err(FillError::NotPresent) => false,
-    }
+// Whether there is a second argument. The program's own name is at 0.
+fn has_second_argument(rt: &impl Env) -> bool {
+    !matches!(rt.arg(2, &mut [0u8; 1]), Err(FillError::NotPresent))
 }
 
-// Whether the first argument is this word, which is no longer than `--reduced-size`.
-fn asks_for(rt: &impl Env, word: &[u8]) -> bool {
+// There is none where the arguments are no words of the usage, of which none is longer than `--reduced-size`.
+fn requested(rt: &impl Env) -> Option<Request> {
     let mut argument = [0u8; 14];
-    match rt.arg(1, &mut argument) {
-        Ok(n) => &argument[..n] == word,
-        Err(_) => false,
+    let n = match rt.arg(1, &mut argument) {
+        Ok(n) => n,
+        Err(FillError::TooLong) => return None,
+        Err(FillError::NotPresent) => return Some(Request::Show { reduced: false }),
+    };
+    if has_second_argument(rt) {
+        return None;
+    }
+    match &argument[..n] {
+        b"--reduced-size" => Some(Request::Show { reduced: true }),
+        b"records" => Some(Request::Run),
+        _ => None,
     }
 }
 
 fn main(rt: HostRuntime) -> io::Result<()> {
-    if !is_given(&rt, 1) {
-        show_input(&rt, false)
-    } else if !is_given(&rt, 2) && asks_for(&rt, b"--reduced-size") {
-        show_input(&rt, true)
-    } else if !is_given(&rt, 2) && asks_for(&rt, b"records") {
-        run_input(&rt)
-    } else {
-        println!(rt; "usage: show_datagram [--reduced-size | records]")
+    match requested(&rt) {
+        Some(Request::Show { reduced }) => show_input(&rt, reduced),
+        Some(Request::Run) => run_input(&rt),
+        None => println!(rt; "usage: show_datagram [--reduced-size | records]"),
     }
 }

@@ -11,7 +11,8 @@ use lib.Seq.{drop_at}
 use native.Mathlib.Omega.{arith}
 use Rattle.register.specs.declared.Record.{Record}
 use Rattle.register.specs.declared.Reading.{Reading}
-use Rattle.register.specs.Register.{Opening, Call, answers}
+use Rattle.register.specs.declared.Opening.{Opening}
+use Rattle.register.specs.Register.{Call, answers}
 use Rattle.register.specs.Tallies.{Members, records_of, members_after_all}
 use Rattle.register.specs.ArrivalOrder.{AllAccepted, AllFromDifferentSources}
 use Rattle.register.proofs.Rows.{length-permuted, member_permuted}

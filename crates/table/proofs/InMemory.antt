@@ -87,7 +87,7 @@ module _
   stored =
       qed 𝓛 (‵ Whole ∷ []) ∵
       use1 𝓛 (‵ Before ⊛ raw (wand 𝓤 (sem 𝓛 Behind) (sem 𝓛 After)))
-      (put_at_lem 𝓛 q T.the_type T'.the_loose 4 24 refl refl (b, o) t (with_member t i m) ((T.struct).as_values t)
+      (put_at_lem 𝓛 q T.the_type T'.the_loose 2 24 refl refl (b, o) t (with_member t i m) ((T.struct).as_values t)
       (set t.members i m) refl refl) $ split ! $
       use1 𝓛 (‵ ((arr_parts (shares Mb.the_row) 64).part q t.members b (o + 24)))
       (Array-apart 𝓛 Mb.the_row q tt 64 t.members b (o + 24)) $ fsplit ! $ feq_l ! (λ len.

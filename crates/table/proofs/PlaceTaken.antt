@@ -17,7 +17,8 @@ use Rattle.register.specs.declared.Record.{Record}
 use Rattle.register.specs.declared.Member.{Member}
 use Rattle.register.specs.declared.Reading.{Reading}
 use Rattle.times.specs.Times.{is_far, is_aged, is_badly_presented}
-use Rattle.register.specs.Register.{Opening, Rows, Call, presents, has_number, is_other_stream, report_checks}
+use Rattle.register.specs.declared.Opening.{Opening}
+use Rattle.register.specs.Register.{Rows, Call, presents, has_number, is_other_stream, report_checks}
 use Rattle.register.specs.Tallies.{records_of}
 use Rattle.register.proofs.Tallies.{length-rows}
 use Rattle.register.proofs.Rows.{clash}

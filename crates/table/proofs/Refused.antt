@@ -11,7 +11,8 @@ use Rattle.origin.specs.Origins.{same_origin}
 use Rattle.origin.proofs.Laws.{equal_same_origin}
 use Rattle.refusals.specs.Refusals.{other_origin}
 use Rattle.register.specs.declared.Record.{Record}
-use Rattle.register.specs.Register.{Opening, Rows, Call}
+use Rattle.register.specs.declared.Opening.{Opening}
+use Rattle.register.specs.Register.{Rows, Call}
 use Rattle.register.specs.Letter.{FromTwin, tallied}
 use Rattle.register.proofs.Rows.{clash}
 use Rattle.choosing.specs.Marked.{nowhere}
@@ -97,5 +98,5 @@ pub chooses_without_tallies : ChoosesWithoutTallies
 unfolding choice_of
 chooses_without_tallies t u same at =
     ap (λ (o : Opening). choice_among o.rate at t.held (records_in t)) same.0
-    ∙ ap (λ (word : ℕ). choice_among u.rate at word (records_in t)) same.1
-    ∙ ap (λ (rows : Rows). choice_among u.rate at u.held rows) same.2
+    ∙ ap (λ (word : ℕ). choice_among u.opening.rate at word (records_in t)) same.1
+    ∙ ap (λ (rows : Rows). choice_among u.opening.rate at u.held rows) same.2

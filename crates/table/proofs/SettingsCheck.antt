@@ -1,11 +1,13 @@
 -- A settings packet on a table (document 02, E9): the table's rows are the register's in some order, which the verdict
 -- does not look at, so that what is proved of the register's verdict holds of the table's.
 use Prim.Native.Nat.{ℕ}
+use Rattle.std.specs.Prelude.{Result, Bool}
+use Rattle.refusals.specs.declared.RefusalNumber.{RefusalNumber}
 use mathlib.Core.Path.{◌≡◌, sym, ap, ◌∙◌}
 use Rattle.idms.specs.declared.Settings.{Settings}
 use Rattle.register.specs.declared.Reading.{Reading}
-use Rattle.register.specs.declared.Verdict.{Verdict}
-use Rattle.register.specs.Register.{Opening, Rows}
+use Rattle.register.specs.declared.Opening.{Opening}
+use Rattle.register.specs.Register.{Rows}
 use Rattle.register.specs.Tallies.{records_of}
 use Rattle.register.specs.SettingsCheck.{verdict, target_settings}
 use Rattle.register.proofs.SettingsCheck.{verdict-permuted, verdict_means, own-verdict}
@@ -27,7 +29,7 @@ verdict-same o t rows h s at slack =
 pub every_settings : EverySettings
 every_settings o calls t ms reached s at slack =
     let same : _ = verdict-same o t (records_of ms) (reached_holds o calls t ms reached) s at slack in (
-      ap (λ (v : Verdict). record { verdict = v; table = t }) same,
+      ap (λ (v : Result Bool RefusalNumber). record { verdict = v; table = t }) same,
       rw same (verdict_means o at (records_of ms) s slack),
     )
 

@@ -11,7 +11,8 @@ use Rattle.std.specs.Prelude.{◌↔◌, ◌≡◌}
 use Rattle.register.specs.declared.Record.{Record}
 use Rattle.register.specs.declared.Member.{Member}
 use Rattle.register.specs.declared.Reading.{Reading}
-use Rattle.register.specs.Register.{Opening, Call}
+use Rattle.register.specs.declared.Opening.{Opening}
+use Rattle.register.specs.Register.{Call}
 use Rattle.register.specs.Tallies.{Members}
 use Rattle.register.specs.ArrivalOrder.{AllAccepted, AllFromDifferentSources}
 use Rattle.table.specs.declared.Table.{Table}

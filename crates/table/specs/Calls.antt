@@ -6,7 +6,8 @@ use Rattle.refusals.specs.Refusals.{bad_opening, other_origin}
 use Rattle.places.specs.Places.{lowest_free, with_place, without_place}
 use Rattle.register.specs.declared.Record.{Record}
 use Rattle.register.specs.declared.Member.{Member}
-use Rattle.register.specs.Register.{Opening, Rows, Call, is_refused_opening, report_checks, farewell_checks, fresh_at}
+use Rattle.register.specs.declared.Opening.{Opening}
+use Rattle.register.specs.Register.{Rows, Call, is_refused_opening, report_checks, farewell_checks, fresh_at}
 use Rattle.register.specs.Tallies.{raised}
 use Rattle.choosing.specs.Marked.{nowhere, nobody, filter_word}
 use Rattle.table.specs.declared.Table.{Table}
@@ -58,12 +59,12 @@ number_of t (Call.sweep at) = 0
 -- the table with another word of places held
 abbrev pub with_held : Table → ℕ → Table
 with_held t word =
-    record { group = t.group; media = t.media; rate = t.rate; held = word; members = t.members }
+    record { opening = t.opening; held = word; members = t.members }
 
 -- the table with a member at a place
 abbrev pub with_member : Table → ℕ → Member → Table
 with_member t place m =
-    record { group = t.group; media = t.media; rate = t.rate; held = t.held; members = set t.members place m }
+    record { opening = t.opening; held = t.held; members = set t.members place m }
 
 -- the tally at a place
 abbrev pub tally_at : Table → ℕ → ℕ

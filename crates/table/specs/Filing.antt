@@ -8,7 +8,8 @@ use Rattle.places.specs.Places.{lowest_free, with_place, without_place}
 use Rattle.register.specs.declared.Record.{Record}
 use Rattle.register.specs.declared.Member.{Member}
 use Rattle.register.specs.declared.Reading.{Reading}
-use Rattle.register.specs.Register.{Opening, report_checks, farewell_checks}
+use Rattle.register.specs.declared.Opening.{Opening}
+use Rattle.register.specs.Register.{report_checks, farewell_checks}
 use Rattle.register.specs.Tallies.{raised}
 use Rattle.choosing.specs.Marked.{nobody}
 use Rattle.table.specs.declared.Table.{Table}
@@ -92,9 +93,7 @@ filing_of t x at =
 abbrev pub with_filing : Table → Filing → Table
 with_filing t f =
     record {
-      group = t.group;
-      media = t.media;
-      rate = t.rate;
+      opening = t.opening;
       held = f.held;
       members = set t.members f.place f.member;
     }

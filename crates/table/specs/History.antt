@@ -19,7 +19,8 @@ use mathlib.Core.List.{List, [], ◌∷◌, Memᴰ, Permᴰ}
 use Rattle.register.specs.declared.Record.{Record}
 use Rattle.register.specs.declared.Member.{Member}
 use Rattle.register.specs.declared.Reading.{Reading}
-use Rattle.register.specs.Register.{Opening, Call, answers, after_all}
+use Rattle.register.specs.declared.Opening.{Opening}
+use Rattle.register.specs.Register.{Call, answers, after_all}
 use Rattle.register.specs.Tallies.{Members, records_of, members_after_all}
 use Rattle.register.specs.Choosing.{choice}
 use Rattle.register.specs.Promise.{Unique, AllInRange, Promised}

@@ -8,7 +8,7 @@ use Rattle.register.specs.declared.Record.{Record}
 use Rattle.register.specs.declared.Reading.{Reading}
 use Rattle.register.specs.Register.{Call}
 use Rattle.table.specs.declared.Table.{Table}
-use Rattle.table.specs.declared.Outcome.{Outcome}
+use Rattle.std.specs.Prelude.{Some, None}
 use Rattle.table.specs.declared.Taken.{Taken}
 use Rattle.table.specs.Calls.{answered}
 
@@ -31,9 +31,9 @@ record_of r origin =
 
 -- what a call answers, as an item's outcome
 abbrev pub call_taken : Table → Call → Taken
-call_taken t call = record { outcome = Outcome.Number (answered t call).number; table = (answered t call).table }
+call_taken t call = record { outcome = Some (answered t call).number; table = (answered t call).table }
 
 unfoldable pub taken : Table → Item → Origin → Reading → Taken
 taken t (Item.Report r) origin at = call_taken t (Call.report (record_of r origin) at)
 taken t (Item.Farewell source) origin at = call_taken t (Call.farewell source origin)
-taken t (Item.Settings s) origin at = record { outcome = Outcome.Passed; table = t }
+taken t (Item.Settings s) origin at = record { outcome = None; table = t }

@@ -2,7 +2,8 @@
 use Rattle.std.specs.Prelude.{ℕ, ◌+◌, ◌/◌, not, cond, ◌&&◌, List, [], ◌∷◌, map, eqb, get_or, replicate}
 use Rattle.places.specs.Places.{is_free, held_in, holds_place}
 use Rattle.register.specs.declared.Member.{Member}
-use Rattle.register.specs.Register.{Opening, Rows, has_number}
+use Rattle.register.specs.declared.Opening.{Opening}
+use Rattle.register.specs.Register.{Rows, has_number}
 use Rattle.register.specs.Tallies.{Members, records_of}
 use Rattle.choosing.specs.Marked.{zeros, nobody, marked_at}
 use Rattle.table.specs.declared.Table.{Table}
@@ -10,7 +11,7 @@ use Rattle.table.specs.declared.Place.{Place}
 
 -- the group, the media source and the rate that a table bears
 abbrev pub opening_of : Table → Opening
-opening_of t = record { group = t.group; media = t.media; rate = t.rate }
+opening_of t = t.opening
 
 -- what a place holds that was never taken
 abbrev pub vacant : Member
@@ -19,7 +20,7 @@ vacant = record { «record» = zeros (replicate 16 0); tally = 0 }
 -- a table for an opening, without members
 unfoldable pub empty_table : Opening → Table
 empty_table o =
-    record { group = o.group; media = o.media; rate = o.rate; held = 0; members = replicate 64 vacant }
+    record { opening = o; held = 0; members = replicate 64 vacant }
 
 -- ---- who is a member
 

@@ -7,7 +7,8 @@ use Rattle.refusals.specs.Refusals.{no_room}
 use Rattle.register.specs.declared.Record.{Record}
 use Rattle.register.specs.declared.Member.{Member}
 use Rattle.register.specs.declared.Reading.{Reading}
-use Rattle.register.specs.Register.{Opening, Call}
+use Rattle.register.specs.declared.Opening.{Opening}
+use Rattle.register.specs.Register.{Call}
 use Rattle.register.specs.Tallies.{Members}
 use Rattle.table.specs.declared.Table.{Table}
 use Rattle.table.specs.Members.{place_at}

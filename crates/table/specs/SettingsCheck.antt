@@ -6,14 +6,13 @@
 -- `settings_lateness` and `target_settings`, the rest of it being held to SettingsPromise; of History `Reached`, with what
 -- its head names for it. `chosen_of` and `settings_checked` stand for what `Table::choose` and `Table::check_settings`
 -- answer.
-use Rattle.std.specs.Prelude.{ℕ, cond, List, ◌≡◌}
-use Rattle.refusals.specs.Refusals.{badly_presented}
+use Rattle.std.specs.Prelude.{ℕ, Bool, true, cond, List, Result, Ok, Err, ◌≡◌}
+use Rattle.refusals.specs.declared.RefusalNumber.{RefusalNumber}
 use Rattle.idms.specs.declared.Settings.{Settings}
 use Rattle.register.specs.declared.Reading.{Reading}
 use Rattle.register.specs.declared.Target.{Target}
-use Rattle.register.specs.declared.Choice.{Choice}
-use Rattle.register.specs.declared.Verdict.{Verdict}
-use Rattle.register.specs.Register.{Opening, Call}
+use Rattle.register.specs.declared.Opening.{Opening}
+use Rattle.register.specs.Register.{Call}
 use Rattle.register.specs.Tallies.{Members, records_of}
 use Rattle.register.specs.Choosing.{is_arrival}
 use Rattle.register.specs.SettingsCheck.{verdict, target_settings}
@@ -26,7 +25,7 @@ use Rattle.table.specs.Choose.{chosen_of}
 use Rattle.table.specs.History.{Reached}
 
 -- the verdict for a table's group, media source and rate, and the records at the places held: no tally is looked at
-unfoldable pub verdict_on : Table → Settings → Reading → (slack : ℕ) → Verdict
+unfoldable pub verdict_on : Table → Settings → Reading → (slack : ℕ) → Result Bool RefusalNumber
 verdict_on t s at slack = verdict (opening_of t) at (marked_at t.held (records_in t)) s slack
 
 -- checking leaves the table as it was
@@ -48,6 +47,6 @@ EverySettings =
 abbrev pub EveryOwnChoice : Type 0
 EveryOwnChoice =
     (o : Opening) (calls : List Call) (t : Table) (members : Members) → Reached o calls t members →
-    (at : Reading) (x : Target) → (chosen_of t at).choice ≡ Choice.Target x → (sender : ℕ) →
+    (at : Reading) (x : Target) → (chosen_of t at).choice ≡ Ok x → (sender : ℕ) →
     (settings_checked t (target_settings sender x) at 0).verdict
-    ≡ cond (is_arrival o at (records_of members)) (Verdict.Refused badly_presented) Verdict.Yes
+    ≡ cond (is_arrival o at (records_of members)) (Err RefusalNumber.BadlyPresented) (Ok true)

@@ -1,19 +1,17 @@
-// What stands for nothing: a record and a member of zeros, a place without a member, a table without members.
+// What stands for nothing: a member of zeros, a place without a member, a table without members.
 ghost use Rattle.std.specs.Prelude.{◌≡◌};
 ghost use Rattle.table.specs.Members.{vacant, empty_table};
 
 use crate::{Place, Table};
 use origin::Origin;
-use register::{Member, Record, ReportFields};
+use register::{Member, Opening, Record, ReportFields};
 
-// A record of zeros.
-fn vacant_record() -> Record
-    ensures { result ≡ vacant.«record» }
-{
-    Record {
+// A member of zeros.
+const VACANT: Member = Member {
+    record: Record {
         source: 0,
         origin: Origin {
-            address: [0u8; 16],
+            address: [0; 16],
             port: 0,
         },
         report: ReportFields {
@@ -25,18 +23,9 @@ fn vacant_record() -> Record
             payload_type: 0,
             p: 0,
         },
-    }
-}
-
-// The same as a member.
-fn vacant_member() -> Member
-    ensures { result ≡ vacant }
-{
-    Member {
-        record: vacant_record(),
-        tally: 0,
-    }
-}
+    },
+    tally: 0,
+};
 
 // No member.
 pub(crate) fn free_place() -> Place
@@ -44,20 +33,18 @@ pub(crate) fn free_place() -> Place
 {
     Place {
         held: 0,
-        member: vacant_member(),
+        member: VACANT,
     }
 }
 
 // A table without members.
-pub(crate) fn empty_table(group: u32, media: u32, rate: u32) -> Table
-    ensures { result ≡ empty_table (record { group = group; media = media; rate = rate }) }
+#[tactic(auto, unfolding(crate::specs::Members::empty_table))]
+pub(crate) fn empty_table(opening: Opening) -> Table
+    ensures { result ≡ empty_table opening }
 {
-    let vacant = vacant_member();
     Table {
-        group,
-        media,
-        rate,
+        opening,
         held: 0,
-        members: [vacant; 64],
+        members: [VACANT; 64],
     }
 }

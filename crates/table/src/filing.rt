@@ -2,18 +2,19 @@
 // plain values, once the source number's place was searched for: first the call's number, then what it does. A caller
 // stores that where its table lies.
 ghost use Rattle.std.specs.Prelude.{◌≡◌};
+ghost use Rattle.refusals.specs.Refusals.{answer_number};
 ghost use Rattle.table.specs.Filing.{member_after, has_other_origin, report_number_at, report_filing};
 ghost use Rattle.table.specs.Filing.{farewell_number_at, farewell_filing};
 
 use crate::tally::raised;
 use checks::report_number;
-use origin::{Origin, same_origin};
+use origin::Origin;
 use places::{lowest_free, with_place, without_place};
-use refusals::{NO_MEMBER, OTHER_ORIGIN};
-use register::{Member, Reading, Record};
+use refusals::{RefusalNumber, answer_number};
+use register::{Member, Opening, Reading, Record};
 
-// A call's number; the place and the member that stands there afterwards, which is the one from before where the call
-// changes nothing; and the word of places held.
+// A call's number, which goes into C's lists as it is; the place and the member that stands there afterwards, which
+// is the one from before where the call changes nothing; and the word of places held.
 #[derive(Clone, Copy)]
 pub struct Filing {
     pub number: u64,
@@ -26,116 +27,119 @@ pub struct Filing {
 fn has_other_origin(there: Member, origin: Origin) -> bool
     ensures { result ≡ has_other_origin there origin }
 {
-    !same_origin(there.record.origin, origin)
+    there.record.origin != origin
 }
 
-// The member at a source number's place after a report that got this number, or after a farewell that was refused, with
+// The member at a source number's place after a report that got this answer, or after a farewell that was refused, with
 // its own record: 14 is tallied there.
-fn member_after(there: Member, x: Record, number: u64) -> Member
-    ensures { result ≡ member_after there x number }
+fn member_after(there: Member, x: Record, checked: Result<(), RefusalNumber>) -> Member
+    ensures { result ≡ member_after there x (answer_number checked) }
 {
-    if number == OTHER_ORIGIN {
-        let mut tallied = there;
-        tallied.tally = raised(there.tally);
-        return tallied;
-    }
-    if number != 0 {
-        return there;
-    }
-    Member {
-        record: x,
-        tally: there.tally,
+    match checked {
+        Ok(()) => Member { record: x, ..there },
+        Err(RefusalNumber::OtherOrigin) => Member {
+            tally: raised(there.tally),
+            ..there
+        },
+        Err(_) => there,
     }
 }
 
-// The number that a report gets, by where its source number's member stands, or 64 where it has none, and who stands
-// there.
+// What a report is answered, by where its source number's member stands, and who stands there. The place is 64 where it
+// has none, as the definition `place_of` has it, which a caller's search answers too.
 pub fn report_number_at(
-    group: u32,
-    media: u32,
-    rate: u32,
+    opening: Opening,
     held: u64,
     place: usize,
     there: Member,
     x: Record,
     at: Reading,
-) -> u64
-    ensures { result ≡ report_number_at (record { group = group; media = media; rate = rate }) held place there x at }
+) -> Result<(), RefusalNumber>
+    ensures { answer_number result ≡ report_number_at opening held place there x at }
 {
     if 64 <= place {
-        let free = lowest_free(held);
-        return report_number(group, media, rate, x, at, false, free == 64);
+        return report_number(opening, x, at, false, lowest_free(held) == 64);
     }
     let elsewhere = has_other_origin(there, x.origin);
-    report_number(group, media, rate, x, at, elsewhere, false)
+    report_number(opening, x, at, elsewhere, false)
 }
 
-// What a report does that got this number, by the same place, and who stands there or else at the first place. With the
-// number that `report_number_at` gives, it is at one of the 64 places.
-pub fn report_filing(held: u64, place: usize, there: Member, x: Record, number: u64) -> Filing
-    ensures { result ≡ report_filing held place there x number }
+// What a report does that got this answer, by the same place, and who stands there or else at the first place. With the
+// answer that `report_number_at` gives, it is at one of the 64 places.
+pub fn report_filing(
+    held: u64,
+    place: usize,
+    there: Member,
+    x: Record,
+    checked: Result<(), RefusalNumber>,
+) -> Filing
+    ensures { result ≡ report_filing held place there x (answer_number checked) }
 {
     if place < 64 {
         return Filing {
-            number,
+            number: answer_number(checked),
             place,
             held,
-            member: member_after(there, x, number),
+            member: member_after(there, x, checked),
         };
     }
-    if number != 0 {
+    if let Err(refused) = checked {
         return Filing {
-            number,
+            number: refused.number(),
             place: 0,
             held,
             member: there,
         };
     }
     let free = lowest_free(held) as usize;
-    let member = Member {
-        record: x,
-        tally: 0,
-    };
     Filing {
         number: 0,
         place: free,
         held: with_place(held, free),
-        member,
+        member: Member {
+            record: x,
+            tally: 0,
+        },
     }
 }
 
-// The number that a farewell gets, by its source number's place, or 64, and who stands there.
-pub fn farewell_number_at(place: usize, there: Member, origin: Origin) -> u64
-    ensures { result ≡ farewell_number_at place there origin }
+// What a farewell is answered, by its source number's place, or 64, and who stands there.
+#[tactic(auto, unfolding(register::specs::Register::farewell_checks))]
+pub fn farewell_number_at(place: usize, there: Member, origin: Origin) -> Result<(), RefusalNumber>
+    ensures { answer_number result ≡ farewell_number_at place there origin }
 {
     if 64 <= place {
-        return NO_MEMBER;
+        return Err(RefusalNumber::NoMember);
     }
     if has_other_origin(there, origin) {
-        return OTHER_ORIGIN;
+        return Err(RefusalNumber::OtherOrigin);
     }
-    0
+    Ok(())
 }
 
-// What a farewell does that got this number: a place is held no more, or 14 is tallied there.
-pub fn farewell_filing(held: u64, place: usize, there: Member, number: u64) -> Filing
-    ensures { result ≡ farewell_filing held place there number }
+// What a farewell does that got this answer: a place is held no more, or 14 is tallied there.
+pub fn farewell_filing(
+    held: u64,
+    place: usize,
+    there: Member,
+    checked: Result<(), RefusalNumber>,
+) -> Filing
+    ensures { result ≡ farewell_filing held place there (answer_number checked) }
 {
     if 64 <= place {
         return Filing {
-            number,
+            number: answer_number(checked),
             place: 0,
             held,
             member: there,
         };
     }
-    if number != 0 {
-        let tallied = member_after(there, there.record, number);
+    if let Err(refused) = checked {
         return Filing {
-            number,
+            number: refused.number(),
             place,
             held,
-            member: tallied,
+            member: member_after(there, there.record, checked),
         };
     }
     Filing {

@@ -8,8 +8,5 @@ use register::TALLY_LIMIT;
 pub(crate) fn raised(tally: u32) -> u32
     ensures { result ≡ raised tally }
 {
-    if TALLY_LIMIT <= tally {
-        return tally;
-    }
-    tally + 1
+    tally.saturating_add(1).min(TALLY_LIMIT)
 }

@@ -1,33 +1,13 @@
 -- Laws of times. Those of `unwrapped` know what a step of 0 means; `delay_positive`, `delay_bound` and
 -- `expanded_by_delay` say only what holds of any presentation after arrival.
 use Prim.Native.Nat.{ℕ, ◌+◌, ◌-◌, ◌%◌, ◌^◌, ◌≤◌, ◌<◌}
-use mathlib.Core.Path.{◌≡◌, refl, sym, ap, ◌∙◌}
+use mathlib.Core.Path.{◌≡◌, refl, ap}
 use mathlib.Core.Bool.{Bool, true, false}
 use lib.Dec.{eqb}
-use native.Mathlib.Nat.{add-mod_right, mod-eq_of_lt}
 use native.Mathlib.Omega.{arith}
 use borrow.Author.Tests.{eqb-true, eqb-false}
 use Rattle.times.specs.Times.{difference_mod, step, unwrapped, expanded, delay}
 use Rattle.times.proofs.Steps.{step-zero, step_other}
-
--- ---- ages, of any width: the difference, or what is left of 2^width where it wraps
-
-module _ (width a b : ℕ) where
-  pub difference_plain : b ≤ a → a < 2 ^ width → a - b ≡ difference_mod width a b
-  unfolding difference_mod
-  difference_plain h k =
-      let m : ℕ = 2 ^ width in
-      let turn : a - b + m ≡ a + m - b = omega arith in
-      let below : a - b < m = omega arith in
-      sym (mod-eq_of_lt below) ∙ sym (add-mod_right (a - b) m) ∙ ap (λ (n : ℕ). n % m) turn
-
-  pub difference_wrapped : a < b → b < 2 ^ width → 2 ^ width - 1 - (b - a) + 1 ≡ difference_mod width a b
-  unfolding difference_mod
-  difference_wrapped h k =
-      let m : ℕ = 2 ^ width in
-      let turn : m - 1 - (b - a) + 1 ≡ a + m - b = omega arith in
-      let below : a + m - b < m = omega arith in
-      turn ∙ sym (mod-eq_of_lt below)
 
 -- ---- presentation
 

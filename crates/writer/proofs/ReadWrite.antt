@@ -2,6 +2,7 @@
 -- unused presented time are cleared. Each item is read from a block or packet (rtcp's Laws/ItemPlaces), and its fields
 -- spell word by word the bytes that were there (Laws/Words).
 use Prim.Native.Nat.{ℕ, ◌+◌, ◌*◌, ◌/◌, ◌%◌, ◌^◌, ◌≤◌, ◌<◌}
+use Rattle.std.specs.Prelude.{Ok}
 use mathlib.Core.Path.{◌≡◌, refl, sym, ap, ap₂, ◌∙◌}
 use mathlib.Core.List.{List, [], ◌∷◌, ◌++◌}
 use mathlib.Core.Bool.{Bool, true, false, not, cond, ◌&&◌, ◌||◌, and-eq-true_iff}
@@ -9,14 +10,12 @@ use lib.ListN.{length, take, drop}
 use lib.Dec.{eqb}
 use native.Mathlib.Omega.{arith}
 use borrow.Author.Tests.{le-ltb, eqb-true, eqb-false, ne_eqb}
-use Rattle.buffer.specs.declared.Written.{Written}
 use Rattle.buffer.specs.Buffer.{written, buffer}
 use Rattle.idms.specs.Rows.{flag}
 use Rattle.idms.specs.declared.Report.{Report}
 use Rattle.idms.specs.declared.Settings.{Settings}
 use Rattle.idms.specs.declared.Item.{Item}
 use Rattle.idms.specs.declared.Placed.{Placed}
-use Rattle.idms.specs.declared.Found.{Found}
 use Rattle.packet.specs.Bytes.{AreBytes, byte, be16, be32, be64}
 use Rattle.packet.specs.Packet.{version, packet_type}
 use Rattle.packet.specs.Report.{block_type, block_length, role, block_p, reports, report_at}
@@ -134,7 +133,7 @@ record ReadReport (d : List ℕ) (place : ℕ) (r : Report) : Type 0 where
 
 read-report :
     (reduced : Bool) (d : List ℕ) (index place : ℕ) (r : Report) → AreBytes d
-    → item_of reduced d index ≡ Found.Item (record { place = place; item = Item.Report r }) → ReadReport d place r
+    → item_of reduced d index ≡ Ok (record { place = place; item = Item.Report r }) → ReadReport d place r
 read-report reduced d index place r h e = take (item-read reduced d index _ e) refl
   where
     take : {x : Placed} → ReadFrom d x → x ≡ record { place = place; item = Item.Report r } → ReadReport d place r
@@ -161,7 +160,7 @@ read-report reduced d index place r h e = take (item-read reduced d index _ e) r
 -- 4,294,967,295.
 pub report_writable :
     (reduced : Bool) (d : List ℕ) (index place : ℕ) (r : Report) → AreBytes d
-    → item_of reduced d index ≡ Found.Item (record { place = place; item = Item.Report r })
+    → item_of reduced d index ≡ Ok (record { place = place; item = Item.Report r })
     → report_is_unwritable r ≡ eqb r.group 4294967295
 report_writable reduced d index place r h e = (read-report reduced d index place r h e).group
 
@@ -169,9 +168,9 @@ report_writable reduced d index place r h e = (read-report reduced d index place
 -- datagram's own 8 words at the item's place, cleared.
 pub report_read_write :
     (reduced : Bool) (d buf : List ℕ) (index place : ℕ) (r : Report) → AreBytes d
-    → item_of reduced d index ≡ Found.Item (record { place = place; item = Item.Report r })
+    → item_of reduced d index ≡ Ok (record { place = place; item = Item.Report r })
     → (r.group ≡ 4294967295 → ⊥) → 40 ≤ length buf
-    → (written (report_message r) buf ≡ Written.Bytes 40)
+    → (written (report_message r) buf ≡ Ok 40)
     × (part (buffer (report_message r) buf) 8 32 ≡ cleared_report d place)
 report_read_write reduced d buf index place r h e g l =
     let known : ReadReport d place r = read-report reduced d index place r h e in
@@ -228,9 +227,9 @@ module _
 -- 36 bytes, and they are the packet's own at the item's place, cleared.
 pub settings_read_write :
     (reduced : Bool) (d buf : List ℕ) (index place : ℕ) (s : Settings) → AreBytes d
-    → item_of reduced d index ≡ Found.Item (record { place = place; item = Item.Settings s })
+    → item_of reduced d index ≡ Ok (record { place = place; item = Item.Settings s })
     → (s.group ≡ 4294967295 → ⊥) → 36 ≤ length buf
-    → (written (settings_message s) buf ≡ Written.Bytes 36)
+    → (written (settings_message s) buf ≡ Ok 36)
     × (take 36 (buffer (settings_message s) buf) ≡ cleared_settings d place)
 settings_read_write reduced d buf index place s h e g l =
     rw (ne_eqb s.group 4294967295 g, le-ltb (length buf) 36 l) (refl, found (item-read reduced d index _ e) refl)

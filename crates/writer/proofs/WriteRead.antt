@@ -1,13 +1,13 @@
 -- Demand 2, first half: what a writer leaves in the buffer reads back as the same fields. The datagram is written out,
 -- so that the walk over it computes; what is left is that four bytes spell their word.
 use Prim.Native.Nat.{ℕ, ◌+◌, ◌*◌, ◌/◌, ◌%◌, ◌^◌, ◌≤◌}
+use Rattle.std.specs.Prelude.{Ok}
 use mathlib.Core.Path.{◌≡◌, refl, sym, ap}
 use mathlib.Core.List.{List}
 use mathlib.Core.Bool.{Bool, true, false, cond}
 use lib.ListN.{length, take}
 use native.Mathlib.Omega.{arith}
 use borrow.Author.Tests.{le-ltb, ne_eqb}
-use Rattle.buffer.specs.declared.Written.{Written}
 use Rattle.buffer.specs.Buffer.{written, buffer}
 use Rattle.idms.specs.declared.Report.{Report}
 use Rattle.idms.specs.declared.Settings.{Settings}
@@ -58,8 +58,8 @@ report_in r p =
 
 walk-report :
     (r : Report) (p : Bool) → ReadBack (bytes_of (report_words (report_in r p))) 8 (Item.Report (report_back r p))
-unfolding report_in report_back item_count item_of pick datagram_check datagram_items walk walking packet_check packet_items
-    head_check padding_is_bad content kind_of first_is_bad block_check block_items report_at be16 be32 be64
+unfolding report_in report_back item_count item_of pick datagram_check datagram_items walk walking packet_check
+    packet_items head_check padding_is_bad content kind_of first_is_bad block_check block_items report_at be16 be32 be64
 walk-report r true =
     record { behind_an_rr = λ reduced ssrc. (refl, refl); alone = (refl, refl); alone-refused = refl }
 walk-report r false =
@@ -91,7 +91,7 @@ same-report r fits h =
 -- size was agreed, and alone where it was.
 pub report_write_read :
     (r : Report) (buf : List ℕ) → ReportFits r → report_is_unwritable r ≡ false → 40 ≤ length buf
-    → (written (report_message r) buf ≡ Written.Bytes 40)
+    → (written (report_message r) buf ≡ Ok 40)
     × ReadBack (take 40 (buffer (report_message r) buf)) 8 (Item.Report r)
 unfolding report_in
 report_write_read r buf fits h l =
@@ -132,7 +132,7 @@ same-settings s fits =
 -- The same of settings: 36 bytes, for every group but 4,294,967,295.
 pub settings_write_read :
     (s : Settings) (buf : List ℕ) → SettingsFit s → (s.group ≡ 4294967295 → ⊥) → 36 ≤ length buf
-    → (written (settings_message s) buf ≡ Written.Bytes 36)
+    → (written (settings_message s) buf ≡ Ok 36)
     × ReadBack (take 36 (buffer (settings_message s) buf)) 0 (Item.Settings s)
 settings_write_read s buf fits g l =
     let same : Item.Settings (settings_back s) ≡ Item.Settings s = ap Item.Settings (same-settings s fits) in

@@ -1,10 +1,10 @@
 -- The two messages as words, word by word as the layouts of packet's Report and Settings have them, and when they are
 -- refused.
 use Rattle.std.specs.Prelude.{ℕ, ◌+◌, ◌*◌, ◌/◌, ◌%◌, ◌^◌, List, [], ◌∷◌, Bool, not, ◌&&◌, ◌||◌, ltb, eqb}
+use Rattle.refusals.specs.declared.RefusalNumber.{RefusalNumber}
 use Rattle.idms.specs.Rows.{flag}
 use Rattle.idms.specs.declared.Report.{Report}
 use Rattle.idms.specs.declared.Settings.{Settings}
-use Rattle.refusals.specs.Refusals.{out_of_range}
 use Rattle.buffer.specs.Buffer.{Message}
 use Rattle.rtcp.specs.Puts.{flat}
 
@@ -58,8 +58,12 @@ settings_are_unwritable s = eqb s.group 4294967295
 -- The two messages as their writers are asked to write them: 11 where they may not be written.
 abbrev pub report_message : Report → Message
 report_message r =
-    record { unwritable = report_is_unwritable r; number = out_of_range; bytes = bytes_of (report_words r) }
+    record { unwritable = report_is_unwritable r; number = RefusalNumber.OutOfRange; bytes = bytes_of (report_words r) }
 
 abbrev pub settings_message : Settings → Message
 settings_message s =
-    record { unwritable = settings_are_unwritable s; number = out_of_range; bytes = bytes_of (settings_words s) }
+    record {
+      unwritable = settings_are_unwritable s;
+      number = RefusalNumber.OutOfRange;
+      bytes = bytes_of (settings_words s);
+    }

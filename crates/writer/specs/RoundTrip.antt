@@ -1,13 +1,13 @@
 -- What demand 2 speaks of: a datagram that is judged and what it gives, the ranges of the fields, and a datagram's own
 -- bytes with what is not written back cleared.
-use Rattle.std.specs.Prelude.{ℕ, ◌+◌, ◌*◌, ◌/◌, ◌%◌, ◌^◌, ◌<◌, ◌≡◌, List, [], ◌∷◌, ◌++◌, Bool, true, false, cond, take, drop}
+use Rattle.std.specs.Prelude.{ℕ, ◌+◌, ◌*◌, ◌/◌, ◌%◌, ◌^◌, ◌<◌, ◌≡◌, List, [], ◌∷◌, ◌++◌, take, drop}
+use Rattle.std.specs.Prelude.{Bool, true, false, cond}
+use Rattle.std.specs.Prelude.{Ok, Err}
+use Rattle.refusals.specs.declared.RefusalNumber.{RefusalNumber}
 use Rattle.idms.specs.declared.Report.{Report}
 use Rattle.idms.specs.declared.Settings.{Settings}
 use Rattle.idms.specs.declared.Item.{Item}
 use Rattle.idms.specs.declared.Placed.{Placed}
-use Rattle.idms.specs.declared.Found.{Found}
-use Rattle.refusals.specs.Refusals.{bad_first}
-use Rattle.datagram.specs.declared.Count.{Count}
 use Rattle.packet.specs.Bytes.{byte}
 use Rattle.packet.specs.Report.{block_p}
 use Rattle.datagram.specs.Answers.{refusal, item_count}
@@ -20,7 +20,7 @@ behind_rr ssrc bytes = bytes_of (0x80C90001 ∷ ssrc ∷ []) ++ bytes
 
 -- exactly one item is read from a datagram, and it is this one; `reduced` says whether reduced size was agreed
 abbrev pub GivesOne : Bool → List ℕ → Placed → Type 0
-GivesOne reduced d x = (item_count reduced d ≡ Count.Items 1) × (item_of reduced d 0 ≡ Found.Item x)
+GivesOne reduced d x = (item_count reduced d ≡ Ok 1) × (item_of reduced d 0 ≡ Ok x)
 
 -- What is read of a packet that a writer wrote: one item, `offset` bytes behind the packet's start. Behind the RR it is
 -- read whether or not reduced size was agreed; alone it is read where that was agreed, and else refused with 4.
@@ -28,7 +28,7 @@ pub record ReadBack (bytes : List ℕ) (offset : ℕ) (x : Item) : Type 0 where
   pub behind_an_rr :
       (reduced : Bool) (ssrc : ℕ) → GivesOne reduced (behind_rr ssrc bytes) (record { place = 8 + offset; item = x })
   pub alone : GivesOne true bytes (record { place = offset; item = x })
-  pub alone-refused : item_count false bytes ≡ Count.Refused (refusal bad_first 0)
+  pub alone-refused : item_count false bytes ≡ Err (refusal RefusalNumber.BadFirst 0)
 
 -- the ranges of the fields' types
 pub record ReportFits (r : Report) : Type 0 where

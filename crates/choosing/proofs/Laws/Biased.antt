@@ -11,9 +11,11 @@ use native.Mathlib.Omega.{arith}
 use borrow.Author.Tests.{not-true, ltb-false, leb-true, leb-false, le-leb, lt-leb}
 use Rattle.places.specs.Places.{held_in}
 use Rattle.times.specs.Times.{ntp_age, rtp_age, is_far, is_aged}
+use Rattle.std.specs.Prelude.{Result}
+use Rattle.refusals.specs.declared.RefusalNumber.{RefusalNumber}
 use Rattle.register.specs.declared.Record.{Record}
 use Rattle.register.specs.declared.Reading.{Reading}
-use Rattle.register.specs.declared.Choice.{Choice}
+use Rattle.register.specs.declared.Target.{Target}
 use Rattle.register.specs.Register.{Rows, filter, presents, fresh_at}
 use Rattle.register.specs.Choosing.{lateness, lateness_of, delay_of, precedes, target_of}
 use Rattle.choosing.specs.Latest.{latest}
@@ -176,7 +178,7 @@ latest_target-biased rate at test n word ms fresh =
 -- a choice of the code: the members counted are fresh in either mode
 pub choice-counted :
     (rate : ℕ) (at : Reading) (held : ℕ) (ms : Rows) (word : ℕ) → word ≡ counted_word rate at held ms →
-    (x : Choice) → x ≡ latest_target (biased_late rate at) (held_in 64 word) (marked_at word ms) →
+    (x : Result Target RefusalNumber) → x ≡ latest_target (biased_late rate at) (held_in 64 word) (marked_at word ms) →
     x ≡ choice_among rate at held ms
 unfolding choice_among
 choice-counted rate at held ms word w x e = e ∙ rw w (go (arrives rate at held ms) refl)

@@ -4,7 +4,8 @@ use mathlib.Core.Bool.{Bool, true, false, not, ◌&&◌}
 use mathlib.Core.Path.{◌≡◌, refl, sym, ap, ◌∙◌}
 use lib.Dec.{eqb}
 use Rattle.register.specs.declared.Reading.{Reading}
-use Rattle.register.specs.Register.{Opening, Rows, presents, fresh_at}
+use Rattle.register.specs.declared.Opening.{Opening}
+use Rattle.register.specs.Register.{Rows, presents, fresh_at}
 use Rattle.register.specs.Choosing.{fresh, is_arrival, counted}
 use Rattle.register.specs.SettingsCheck.{is_none_counted}
 use Rattle.register.proofs.Rows.{filter_both, any_both, none-length}

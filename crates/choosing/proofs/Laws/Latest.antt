@@ -5,8 +5,10 @@ use mathlib.Core.Bool.{Bool, true, false, cond, ◌&&◌, and-eq-true_iff, and-f
 use mathlib.Core.List.{[], ◌∷◌}
 use mathlib.Core.Path.{◌≡◌, refl, sym, ap, ◌∙◌}
 use lib.IntN.{ℤ}
+use Rattle.std.specs.Prelude.{Result}
+use Rattle.refusals.specs.declared.RefusalNumber.{RefusalNumber}
 use Rattle.register.specs.declared.Record.{Record}
-use Rattle.register.specs.declared.Choice.{Choice}
+use Rattle.register.specs.declared.Target.{Target}
 use Rattle.register.specs.Register.{Rows, filter}
 use Rattle.register.specs.Choosing.{precedes, precedes_all, first_of, target_of}
 use Rattle.choosing.specs.Latest.{latest}
@@ -60,7 +62,7 @@ first_skip n test a b rows implies = go (test a) refl (test b) refl
     go false p false q = rw (p, q) refl
 
 -- the first row, in order, of those that precede all
-abbrev first_of_all : (Record → ℤ) → ℕ → Rows → Choice
+abbrev first_of_all : (Record → ℤ) → ℕ → Rows → Result Target RefusalNumber
 first_of_all late n rows = first_of n (filter (λ row. precedes_all late row rows) rows)
 
 first_of_one :

@@ -12,7 +12,7 @@ use native.Mathlib.Numerals.{add-one}
 use native.Mathlib.Omega.{arith}
 use borrow.Author.Tests.{eqb-true, eqb-false}
 use Rattle.places.specs.Places.{is_free, held_in, bit}
-use Rattle.places.proofs.Laws.Bits.{lowest_bit, bit_half, bit-none, power_next}
+use Rattle.places.proofs.Laws.Bits.{lowest_bit, bit_half, bit-none, power_next, above_free, with_free}
 use Rattle.places.proofs.Laws.Free.{held_step}
 use Rattle.register.specs.declared.Record.{Record}
 use Rattle.register.specs.Register.{Rows, filter, any}
@@ -208,3 +208,6 @@ kept_end {test} {held} {ms} {kept} {word} {i} h so =
     let none : filter_word test word (drop i ms) ≡ 0 = ap (filter_word test word) (drop_of_length-le ms h) in
     let nothing : 2 ^ i * filter_word test word (drop i ms) ≡ 0 = ap (λ (n : ℕ). 2 ^ i * n) none ∙ omega arith in
     omega (arith, nothing, so.whole)
+
+-- a word of i bits with the bit above them all
+pub ruleset bit_in_front = (power_next, above_free, with_free)

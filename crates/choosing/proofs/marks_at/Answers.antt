@@ -1,4 +1,4 @@
--- After i places each word has the bits of those that pass its test. The measure is how many places are left.
+-- Each word by the bit that is set in it.
 use Prim.Native.Nat.{◌≤◌, ◌<◌}
 use mathlib.Core.Bool.{Bool, not, ◌&&◌, and_assoc}
 use mathlib.Core.Path.{◌≡◌, refl, ap, ◌∙◌}
@@ -10,11 +10,9 @@ use Rattle.register.proofs.Tallies.{length-rows}
 use Rattle.places.specs.Places.{is_free}
 use Rattle.choosing.specs.Marked.{nowhere}
 use Rattle.choosing.specs.Choose.{at_rate}
-use Rattle.choosing.proofs.Laws.Marked.{row_at, kept_start, kept_step, kept_end}
+use Rattle.choosing.proofs.Laws.Marked.{row_at, kept_step, kept_end}
 use Rattle.choosing.proofs.marks_at.Goals as goal
-
-pub loop-i-init : goal.loop-i-init
-loop-i-init c = (omega arith, kept_start, kept_start)
+use Rattle.choosing.proofs.marks_at.Goals.{then-yes, else-yes}
 
 pub loop-i-preserved : goal.loop-i-preserved
 loop-i-preserved c =
@@ -24,17 +22,22 @@ loop-i-preserved c =
     let fresh : Bool = fresh_at (at_rate c.args.rate) c.args.at row in
     let marked : c.is_marked_fresh-yes.result ≡ (not (is_free c.loop-i.word) && fresh) =
     rw (← row_at ms c.loop-i.i) at c.is_marked_fresh-yes.ensures in
+    let both : c.if-yes.with_bit ≡ (c.is_marked_fresh-yes.result && presents row) =
+    rw (row_at ms c.loop-i.i)
+    (elim c.if-yes.branch [
+      | then-yes w ↦ rw w.if-yes.true w.with_bit-is
+      | else-yes w ↦ rw w.if-yes.false (w.with_bit-is ∙ w.if-yes.false)
+    ]) in
     let presenting : _ =
-    rw (← row_at ms c.loop-i.i) at c.both.ensures
+    both
     ∙ ap (λ (t : Bool). t && presents row) marked
     ∙ and_assoc (not (is_free c.loop-i.word)) fresh (presents row) in (
-      omega arith,
-      kept_step _ within c.loop-i.invariant.1 marked c.with_bit-fresh.ensures,
-      kept_step _ within c.loop-i.invariant.2 presenting c.with_bit-presenting.ensures,
+      kept_step _ within c.loop-i.invariant.0 marked c.with_bit-fresh.ensures,
+      kept_step _ within c.loop-i.invariant.1 presenting c.with_bit-presenting.ensures,
     )
 
 pub returns : goal.returns
 returns c =
     let ms = c.args.members in
     let all : length (records_of ms) ≤ c.loop-i.i = omega (arith, c.well_formed, length-rows ms) in
-    rw (kept_end all c.loop-i.invariant.1, kept_end all c.loop-i.invariant.2) refl
+    rw (kept_end all c.loop-i.invariant.0, kept_end all c.loop-i.invariant.1) refl

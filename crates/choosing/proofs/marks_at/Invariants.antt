@@ -1,5 +1,4 @@
--- After i places each word has the bits of those that pass its test. The measure is how many places are left.
-use Prim.Native.Nat.{◌-◌, ◌≤◌}
+-- After i places each word has the bits of those that pass its test.
 use mathlib.Core.Bool.{◌&&◌}
 use Rattle.register.specs.Register.{presents, fresh_at}
 use Rattle.register.specs.Tallies.{records_of}
@@ -9,10 +8,7 @@ use Rattle.choosing.proofs.marks_at.Given as goal
 
 abbrev pub invariant-loop-i : goal.invariant-loop-i
 invariant-loop-i l =
-    (l.i ≤ 64)
-    × KeptSoFar (fresh_at (at_rate l.rate) l.at) l.held (records_of l.members) l.fresh l.word l.i
-    × KeptSoFar (λ m. fresh_at (at_rate l.rate) l.at m && presents m) l.held (records_of l.members) l.presenting l.word l.i
-
-abbrev pub decreases-loop-i : goal.decreases-loop-i
-decreases-loop-i l =
-    64 - l.i
+    KeptSoFar (fresh_at (at_rate l.rate) l.at) l.held (records_of l.fn.members) l.fresh l.word l.i
+    × KeptSoFar (λ m. fresh_at (at_rate l.rate) l.at m && presents m) l.held (records_of l.fn.members) l.presenting
+    l.word
+    l.i

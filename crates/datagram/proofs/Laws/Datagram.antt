@@ -5,6 +5,7 @@ use mathlib.Core.List.{List, [], ◌∷◌, ◌++◌}
 use mathlib.Core.Bool.{Bool}
 use lib.ListN.{length}
 use native.Mathlib.Omega.{arith}
+use Rattle.refusals.specs.declared.RefusalNumber.{RefusalNumber}
 use Rattle.idms.specs.declared.Placed.{Placed}
 use Rattle.packet_checks.specs.declared.kind.PacketType.{PacketType}
 use Rattle.packet.specs.declared.contents.Packet.{Packet}
@@ -67,7 +68,7 @@ blocks_end d sender stop at h = gives_end (block_check d stop) (block_items d se
 
 module _ (reduced : Bool) (d : List ℕ) (p : ℕ) where
   pub check_refused :
-      (number place : ℕ) → head_check reduced d p ≡ refused number place → packet_check reduced d p ≡ refused number place
+      (number : RefusalNumber) (place : ℕ) → head_check reduced d p ≡ refused number place → packet_check reduced d p ≡ refused number place
   unfolding packet_check
   check_refused number place h = rw h
 

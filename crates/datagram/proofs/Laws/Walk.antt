@@ -1,16 +1,17 @@
 -- Laws of a walk, for any parts, and of the count that a loop over parts keeps.
 use Prim.Native.Nat.{ℕ, suc, zero, ◌+◌, ◌-◌, ◌*◌, ◌≤◌, ◌<◌}
+use Rattle.refusals.specs.declared.RefusalNumber.{RefusalNumber}
+use Rattle.std.specs.Prelude.{Result, Ok, Err}
 use mathlib.Core.Path.{◌≡◌, refl, sym, ap, ◌∙◌}
 use mathlib.Core.List.{List, [], ◌++◌}
 use mathlib.Core.Bool.{Bool, true, false}
 use lib.Dec.{ltb}
 use lib.ListN.{length, length-append}
-use native.Mathlib.Nat.{add_assoc, zero-add, add-zero}
+use native.Mathlib.Nat.{add_assoc, add-zero}
 use native.Mathlib.Omega.{arith}
 use borrow.Author.Tests.{lt-ltb, le-ltb, ltb-true, ltb-false}
 use Rattle.idms.specs.declared.Placed.{Placed}
 use Rattle.idms.specs.declared.Refusal.{Refusal}
-use Rattle.datagram.specs.declared.Count.{Count}
 use Rattle.packet.specs.Checks.{Check, passed, refused, and_then}
 use Rattle.datagram.specs.Walk.{walking, walk, check_each, gives}
 use Rattle.datagram.specs.Answers.{refusal, count_unless}
@@ -70,7 +71,7 @@ module _ {R : Type 0} (join : ℕ → R → R) (none : R) (size : ℕ → ℕ) (
 -- ---- what holds of every part's refusals holds of the walk's
 
 pub check_each_refuses :
-    (P : ℕ → ℕ → Type 0) (check : ℕ → Check) (size : ℕ → ℕ) (stop place : ℕ) → ((p : ℕ) → Refuses P (check p))
+    (P : RefusalNumber → ℕ → Type 0) (check : ℕ → Check) (size : ℕ → ℕ) (stop place : ℕ) → ((p : ℕ) → Refuses P (check p))
     → Refuses P (check_each check size stop place)
 unfolding walk walking
 check_each_refuses P check size stop place f = go (stop - place) place
@@ -133,13 +134,13 @@ module _ (check : ℕ → Check) (give : ℕ → List Placed) (size : ℕ → �
 
 -- ---- count_unless
 
-pub count_items_lem : (k : Check) (n m : ℕ) → count_unless k n ≡ Count.Items m → (k ≡ passed) × (m ≡ n)
+pub count_items_lem : (k : Check) (n m : ℕ) → count_unless k n ≡ Ok m → (k ≡ passed) × (m ≡ n)
 count_items_lem passed n m e = (refl, cc)
-count_items_lem (refused number place) n m e = let z : ◌≡◌ {A = ℕ} 0 1 = cc in absurd (omega arith)
+count_items_lem (refused number place) n m e = cc
 
 pub count-refused :
-    (k : Check) (n : ℕ) (r : Refusal) → count_unless k n ≡ Count.Refused r → k ≡ refused r.number r.place
-count-refused passed n r e = let z : ◌≡◌ {A = ℕ} 0 1 = cc in absurd (omega arith)
+    (k : Check) (n : ℕ) (r : Refusal) → count_unless k n ≡ Err r → k ≡ refused r.number r.place
+count-refused passed n r e = cc
 count-refused (refused number place) n r e =
     let same : refusal number place ≡ r = cc in
     ap (λ (x : Refusal). refused x.number x.place) same
@@ -147,17 +148,13 @@ count-refused (refused number place) n r e =
 -- ---- tally: what a loop over parts has yet to answer, with n items count_unless
 
 module _ (check : ℕ → Check) (give : ℕ → List Placed) (size : ℕ → ℕ) (stop : ℕ) where
-  abbrev pub tally : ℕ → ℕ → Count
+  abbrev pub tally : ℕ → ℕ → Result ℕ Refusal
   tally n place = count_unless (check_each check size stop place) (n + length (gives give size stop place))
-
-  pub tally_start :
-      (place : ℕ) → tally 0 place ≡ count_unless (check_each check size stop place) (length (gives give size stop place))
-  tally_start place = rw zero-add
 
   module _ (grows : (place : ℕ) → 0 < size place) where
     pub tally_refused :
-        (n place number at : ℕ) → place < stop → check place ≡ refused number at
-        → tally n place ≡ Count.Refused (refusal number at)
+        (n place : ℕ) (number : RefusalNumber) (at : ℕ) → place < stop → check place ≡ refused number at
+        → tally n place ≡ Err (refusal number at)
     tally_refused n place number at h e =
         rw (check_each-part check give size stop grows place h, e)
 
@@ -175,7 +172,7 @@ module _ (check : ℕ → Check) (give : ℕ → List Placed) (size : ℕ → �
           add_assoc,
         )
 
-    pub tally_end : (n place : ℕ) → stop ≤ place → tally n place ≡ Count.Items n
+    pub tally_end : (n place : ℕ) → stop ≤ place → tally n place ≡ Ok n
     tally_end n place h =
         rw (
           check_each_end check give size stop grows place h,

@@ -1,101 +1,61 @@
 -- The blocks checked and counted: what is left to answer never changes. The measure is what is left of the content.
 use Prim.Native.Nat.{◌+◌}
-use mathlib.Core.Path.{sym, ◌∙◌}
+use mathlib.Core.Path.{◌≡◌, refl, sym, ◌∙◌}
 use native.Mathlib.Nat.{add-zero}
 use native.Mathlib.Omega.{arith}
+use Rattle.std.proofs.Common.{rules}
+use Rattle.std.specs.Prelude.{Result, Ok, Err}
+use Rattle.refusals.specs.declared.RefusalNumber.{RefusalNumber}
+use Rattle.packet_checks.specs.declared.block.Block.{Block}
 use Rattle.packet.specs.Bytes.{be32}
 use Rattle.packet.specs.Report.{block_size, block_check, block_items}
-use Rattle.datagram.proofs.Laws.Counting.{block_refused, report-counted, skipped_counted}
-use Rattle.datagram.proofs.Laws.Walk.{tally_start, tally_end}
+use Rattle.datagram.specs.Answers.{refusal, blocks_count}
+use Rattle.datagram.proofs.Laws.Counting.{block_refused, BlockCounted, report-counted, skipped_counted}
+use Rattle.datagram.proofs.Laws.Walk.{tally_end}
 use Rattle.datagram.proofs.count_blocks.Goals as goal
 
-pub overflow_add-stop : goal.overflow_add-stop
-overflow_add-stop c = omega arith
+-- the refusal is the block's, with its place
+pub returns-in_err-map_err : goal.returns-in_err-map_err
+returns-in_err-map_err c = go c.block_at.result refl
+  where
+    go :
+        (r : Result Block RefusalNumber) → c.block_at.result ≡ r
+        → c.from_residual.result ≡ blocks_count c.args.d.now c.args.p c.args.content
+    go (Ok b) e = search rules
+    go (Err number) e =
+        let a = c.args in
+        let k : c.from_residual.result ≡ Err (refusal number c.loop-at.at) = search rules in
+        k
+        ∙ sym
+        (c.loop-at.invariant.2
+        ∙ block_refused a.d.now (be32 a.d.now (a.p + 4)) (a.p + a.content) c.loop-at.n c.loop-at.at (omega arith) number
+        (sym c.block_at.ensures ∙ e))
 
-pub overflow_add-at : goal.overflow_add-at
-overflow_add-at c = omega arith
-
-pub loop-at-init : goal.loop-at-init
-loop-at-init c =
+report : (c : goal.In-Report) → BlockCounted c.args.d.now (be32 c.args.d.now (c.args.p + 4)) (c.args.p + c.args.content) c.loop-at.n c.loop-at.at 1 32
+report c =
     let a = c.args in
-    let stop = a.p + a.content in (
-      omega arith,
-      omega arith,
-      sym
-          (tally_start (block_check a.d.now stop) (block_items a.d.now (be32 a.d.now (a.p + 4))) (block_size a.d.now) stop
-          (a.p + 8)),
-    )
+    report-counted a.d.now (be32 a.d.now (a.p + 4)) (a.p + a.content) c.loop-at.n c.loop-at.at (omega arith) (search rules)
 
-pub returns-in-Refused : goal.returns-in-Refused
-returns-in-Refused c =
+skipped : (c : goal.In-Skipped) → BlockCounted c.args.d.now (be32 c.args.d.now (c.args.p + 4)) (c.args.p + c.args.content) c.loop-at.n c.loop-at.at 0 c.in-Skipped.bytes
+skipped c =
     let a = c.args in
-    let m : _ =
-    block_refused a.d.now (be32 a.d.now (a.p + 4)) (a.p + a.content) c.loop-at.n c.loop-at.at
-    (omega arith) c.in-Refused.number
-    (sym c.block_at.ensures ∙ c.in-Refused.is) in
-    sym (c.loop-at.invariant.2 ∙ m)
-
-pub overflow_add-n : goal.overflow_add-n
-overflow_add-n c =
-    let a = c.args in
-    let m : _ =
-    report-counted a.d.now (be32 a.d.now (a.p + 4)) (a.p + a.content) c.loop-at.n c.loop-at.at
-    (omega arith)
-    (sym c.block_at.ensures ∙ c.in-Report.is) in
-    omega (arith, m.inside, c.loop-at.invariant.1)
-
-pub overflow_add-at-in-Report : goal.overflow_add-at-in-Report
-overflow_add-at-in-Report c =
-    let a = c.args in
-    let m : _ =
-    report-counted a.d.now (be32 a.d.now (a.p + 4)) (a.p + a.content) c.loop-at.n c.loop-at.at
-    (omega arith)
-    (sym c.block_at.ensures ∙ c.in-Report.is) in
-    omega (arith, m.inside)
-
-pub loop-at-smaller-in-Report : goal.loop-at-smaller-in-Report
-loop-at-smaller-in-Report c =
-    let a = c.args in
-    let m : _ =
-    report-counted a.d.now (be32 a.d.now (a.p + 4)) (a.p + a.content) c.loop-at.n c.loop-at.at
-    (omega arith)
-    (sym c.block_at.ensures ∙ c.in-Report.is) in
-    omega (arith, m.inside)
+    skipped_counted a.d.now (be32 a.d.now (a.p + 4)) (a.p + a.content) c.loop-at.n c.loop-at.at (omega arith) c.in-Skipped.bytes
+    (search rules)
 
 pub loop-at-preserved-in-Report : goal.loop-at-preserved-in-Report
 loop-at-preserved-in-Report c =
-    let a = c.args in
-    let m : _ =
-    report-counted a.d.now (be32 a.d.now (a.p + 4)) (a.p + a.content) c.loop-at.n c.loop-at.at
-    (omega arith)
-    (sym c.block_at.ensures ∙ c.in-Report.is) in
+    let m : _ = report c in
     (m.inside, omega (arith, c.loop-at.invariant.1), c.loop-at.invariant.2 ∙ m.rest)
 
 pub overflow_add-at-in-Skipped : goal.overflow_add-at-in-Skipped
-overflow_add-at-in-Skipped c =
-    let a = c.args in
-    let m : _ =
-    skipped_counted a.d.now (be32 a.d.now (a.p + 4)) (a.p + a.content) c.loop-at.n c.loop-at.at
-    (omega arith) c.in-Skipped.bytes
-    (sym c.block_at.ensures ∙ c.in-Skipped.is) in
-    omega (arith, m.inside)
+overflow_add-at-in-Skipped c = omega (arith, (skipped c).inside)
 
 pub loop-at-smaller : goal.loop-at-smaller
-loop-at-smaller c =
-    let a = c.args in
-    let m : _ =
-    skipped_counted a.d.now (be32 a.d.now (a.p + 4)) (a.p + a.content) c.loop-at.n c.loop-at.at
-    (omega arith) c.in-Skipped.bytes
-    (sym c.block_at.ensures ∙ c.in-Skipped.is) in
-    omega (arith, m.inside, m.whole)
+loop-at-smaller c = omega (arith, (skipped c).inside, (skipped c).whole)
 
 pub loop-at-preserved : goal.loop-at-preserved
 loop-at-preserved c =
-    let a = c.args in
-    let m : _ =
-    skipped_counted a.d.now (be32 a.d.now (a.p + 4)) (a.p + a.content) c.loop-at.n c.loop-at.at
-    (omega arith) c.in-Skipped.bytes
-    (sym c.block_at.ensures ∙ c.in-Skipped.is) in
+    let m : _ = skipped c in
     (m.inside, omega (arith, m.whole, c.loop-at.invariant.1), c.loop-at.invariant.2 ∙ rw add-zero at m.rest)
 
 pub returns : goal.returns

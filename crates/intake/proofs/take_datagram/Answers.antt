@@ -9,8 +9,8 @@ returns-then-answers-calls c =
     let args = c.args in
     let all : _ =
     answered-short args.t args.reduced args.d.now args.origin args.at args.answers.now _ _ _
-    (sym c.open_datagram.ensures ∙ c.in-Items.is) c.count_calls-calls.ensures c.if-answers-calls.true in
-    record { value = all.0; answers_after = all.1 }
+    (sym c.open_datagram.ensures ∙ c.in-Ok.is) c.count_calls-calls.ensures c.if-answers-calls.true in
+    rw c.number-then-answers-calls.ensures (record { value = all.0; answers_after = all.1 })
 
 pub make_calls-requires : goal.make_calls-requires
 make_calls-requires c =
@@ -18,19 +18,19 @@ make_calls-requires c =
     let many : _ = c.count_calls-calls.ensures ∙ sym (length_calls args.origin args.at _) in
     omega (arith, c.if-answers-calls.false, many)
 
-pub returns-in-Refused : goal.returns-in-Refused
-returns-in-Refused c =
+pub returns-in-Err : goal.returns-in-Err
+returns-in-Err c =
     let args = c.args in
     let all : _ =
     answered-refused args.t args.reduced args.d.now args.origin args.at args.answers.now _
-    (sym c.open_datagram.ensures ∙ c.in-Refused.is) in
-    record { value = all.0; answers_after = all.1 }
+    (sym c.open_datagram.ensures ∙ c.in-Err.is) in
+    rw c.number.ensures (record { value = all.0; answers_after = all.1 })
 
 pub returns-else-answers-calls : goal.returns-else-answers-calls
 returns-else-answers-calls c =
     let args = c.args in
     let all : _ =
     answered-all args.t args.reduced args.d.now args.origin args.at args.answers.now _ _ _
-    (sym c.open_datagram.ensures ∙ c.in-Items.is) c.count_calls-calls.ensures _ _
+    (sym c.open_datagram.ensures ∙ c.in-Ok.is) c.count_calls-calls.ensures _ _
     c.if-answers-calls.false c.make_calls.ensures.value c.make_calls.ensures.answers_after in
     record { value = all.0; answers_after = all.1 }

@@ -1,20 +1,20 @@
 -- Laws of a block: its checks, the items that it gives, and the calls' answers at it.
-use Prim.Native.Nat.{ℕ, ◌+◌, ◌-◌, ◌≤◌, ◌<◌}
+use Prim.Native.Nat.{ℕ, ◌+◌, ◌-◌, ◌≤◌}
+use Rattle.std.specs.Prelude.{Some, Result, Ok, Err}
+use Rattle.refusals.specs.declared.RefusalNumber.{RefusalNumber}
 use mathlib.Core.Path.{◌≡◌, refl, ap, ◌∙◌}
 use mathlib.Core.List.{List, [], ◌∷◌}
-use mathlib.Core.Bool.{Bool, true, false, not, cond, ◌&&◌, ◌||◌}
+use mathlib.Core.Bool.{Bool, true, false, cond, ◌&&◌, ◌||◌}
 use lib.ListN.{length}
 use lib.Dec.{ltb, eqb}
 use native.Mathlib.Omega.{arith}
-use borrow.Author.Tests.{ltb-false, lt-ltb, le-ltb, eqb-true, eq-eqb, ne_eqb, not-false}
+use borrow.Author.Tests.{ltb-false, le-ltb, eqb-true, not-false}
 use Rattle.idms.specs.declared.Item.{Item}
 use Rattle.idms.specs.declared.Report.{Report}
-use Rattle.refusals.specs.Refusals.{block_past_end, bad_block_length}
 use Rattle.packet_checks.specs.declared.block.Block.{Block}
-use Rattle.packet_checks.specs.IdmsBlock.{idms_length_is_bad, role_reports, idms_block}
+use Rattle.packet_checks.specs.IdmsBlock.{idms_length_is_bad, role_reports}
 use Rattle.packet.specs.declared.block.BlockItem.{BlockItem}
-use Rattle.packet.specs.declared.block.BlockReport.{BlockReport}
-use Rattle.packet.specs.Checks.{Check, passed, refused, refuse_if}
+use Rattle.packet.specs.Checks.{Check, passed, refused}
 use Rattle.packet.specs.Report.{block_type, block_length, block_size, block_check, role, reports, report_at, block_items}
 use Rattle.packet.specs.Answers.{block_unless, block_is, block_item_of, block_item, report_is}
 use Rattle.packet.proofs.Laws.Bools.{or_false, and_left}
@@ -52,7 +52,8 @@ block_inside d stop at h =
 
 -- check 7: a block of type 12 has 8 words
 pub idms_words :
-    (d : List ℕ) (stop at : ℕ) → block_check d stop at ≡ passed → eqb (block_type d at) 12 ≡ true → block_length d at ≡ 7
+    (d : List ℕ) (stop at : ℕ) → block_check d stop at ≡ passed → eqb (block_type d at) 12 ≡ true
+    → block_length d at ≡ 7
 unfolding block_check
 idms_words d stop at h twelve =
     let six : _ = check_passes (ltb (length d) stop || ltb stop (at + block_size d at)) _ _ _ h in
@@ -61,68 +62,40 @@ idms_words d stop at h twelve =
 
 pub report_words_lem :
     (d : List ℕ) (stop at : ℕ) → block_check d stop at ≡ passed → reports d at ≡ true → block_length d at ≡ 7
-report_words_lem d stop at h e = idms_words d stop at h (and_left (eqb (block_type d at) 12) (role_reports (role d at)) e)
+report_words_lem d stop at h e =
+    idms_words d stop at h (and_left (eqb (block_type d at) 12) (role_reports (role d at)) e)
 
 -- what holds of each number with the block's place holds of every refusal
 pub block_refuses :
-    (P : ℕ → ℕ → Type 0) (d : List ℕ) (stop at : ℕ) → P block_past_end at → P bad_block_length at
+    (P : RefusalNumber → ℕ → Type 0) (d : List ℕ) (stop at : ℕ)
+    → P RefusalNumber.BlockPastEnd at → P RefusalNumber.BadBlockLength at
     → Refuses P (block_check d stop at)
 unfolding block_check
 block_refuses P d stop at six seven =
     refuse_if_refuses P (ltb (length d) stop || ltb stop (at + block_size d at)) _ at _ six
-    (refuse_if_refuses P (eqb (block_type d at) 12 && idms_length_is_bad (block_length d at)) _ at _ seven (passed_refuses P))
+    (refuse_if_refuses P (eqb (block_type d at) 12 && idms_length_is_bad (block_length d at)) _ at _ seven
+    (passed_refuses P))
 
--- ---- block_is, by the first check that applies
-
-module _ (d : List ℕ) (stop at : ℕ) where
-  pub block_outside : length d < stop → block_is d stop at ≡ Block.Refused block_past_end
-  unfolding block_is block_check
-  block_outside h = rw (lt-ltb (length d) stop h)
-
-  module _ (l : stop ≤ length d) where
-    pub block_long : stop < at + block_size d at → block_is d stop at ≡ Block.Refused block_past_end
-    unfolding block_is block_check
-    block_long h = rw (le-ltb (length d) stop l, lt-ltb stop (at + block_size d at) h)
-
-    module _ (h : at + block_size d at ≤ stop) where
-      pub block_idms : block_type d at ≡ 12 → block_is d stop at ≡ idms_block (block_length d at) (role d at)
-      unfolding block_is block_check
-      block_idms t =
-          rw (le-ltb (length d) stop l, le-ltb stop (at + block_size d at) h, eq-eqb (block_type d at) 12 t)
-          (go (eqb (block_length d at) 7) refl)
-        where
-          go :
-              (s : Bool) → eqb (block_length d at) 7 ≡ s
-              → block_unless (refuse_if (not s) bad_block_length at passed)
-              (cond (role_reports (role d at)) Block.Report (Block.Skipped (block_size d at)))
-              ≡ cond (not s) (Block.Refused bad_block_length)
-              (cond (role_reports (role d at)) Block.Report (Block.Skipped 32))
-          go true e = rw (eqb-true (block_length d at) 7 e)
-          go false e = refl
-
-      pub block_other : (block_type d at ≡ 12 → ⊥) → block_is d stop at ≡ Block.Skipped (block_size d at)
-      unfolding block_is block_check
-      block_other t =
-          rw (le-ltb (length d) stop l, le-ltb stop (at + block_size d at) h, ne_eqb (block_type d at) 12 t)
-
--- ---- block_is, the other way: what an answer says of the checks
+-- ---- block_is: what an answer says of the checks
 
 block_unless_report :
-    (k : Check) (t : Bool) (b : ℕ) → block_unless k (cond t Block.Report (Block.Skipped b)) ≡ Block.Report
+    (k : Check) (t : Bool) (b : ℕ) → block_unless k (cond t (Ok Block.Report) (Ok (Block.Skipped b))) ≡ Ok Block.Report
     → (k ≡ passed) × (t ≡ true)
 block_unless_report passed true b e = (refl, refl)
 block_unless_report passed false b e = let z : ◌≡◌ {A = ℕ} 0 1 = cc in absurd (omega arith)
 block_unless_report (refused number place) t b e = let z : ◌≡◌ {A = ℕ} 0 1 = cc in absurd (omega arith)
 
 block_unless_skipped :
-    (k : Check) (t : Bool) (b n : ℕ) → block_unless k (cond t Block.Report (Block.Skipped b)) ≡ Block.Skipped n
+    (k : Check) (t : Bool) (b n : ℕ)
+    → block_unless k (cond t (Ok Block.Report) (Ok (Block.Skipped b))) ≡ Ok (Block.Skipped n)
     → (k ≡ passed) × (t ≡ false) × (n ≡ b)
 block_unless_skipped passed true b n e = let z : ◌≡◌ {A = ℕ} 0 1 = cc in absurd (omega arith)
 block_unless_skipped passed false b n e = (refl, refl, cc)
 block_unless_skipped (refused number place) t b n e = let z : ◌≡◌ {A = ℕ} 0 1 = cc in absurd (omega arith)
 
 block_unless_refused :
-    (k : Check) (t : Bool) (b n : ℕ) → block_unless k (cond t Block.Report (Block.Skipped b)) ≡ Block.Refused n
+    (k : Check) (t : Bool) (b : ℕ) (n : RefusalNumber)
+    → block_unless k (cond t (Ok Block.Report) (Ok (Block.Skipped b))) ≡ Err n
     → (q : ℕ) × (k ≡ refused n q)
 block_unless_refused passed true b n e = let z : ◌≡◌ {A = ℕ} 0 1 = cc in absurd (omega arith)
 block_unless_refused passed false b n e = let z : ◌≡◌ {A = ℕ} 0 1 = cc in absurd (omega arith)
@@ -136,7 +109,7 @@ pub record BlockPassed (d : List ℕ) (stop at bytes : ℕ) : Type 0 where
   pub within : stop ≤ length d
 
 module _ (d : List ℕ) (stop at : ℕ) where
-  pub met_report : block_is d stop at ≡ Block.Report → BlockPassed d stop at 32 × (reports d at ≡ true)
+  pub met_report : block_is d stop at ≡ Ok Block.Report → BlockPassed d stop at 32 × (reports d at ≡ true)
   unfolding block_is
   met_report e =
       let m : _ = block_unless_report (block_check d stop at) (reports d at) (block_size d at) e in
@@ -145,19 +118,20 @@ module _ (d : List ℕ) (stop at : ℕ) where
       (record { check = m.0; size = size; inside = omega (arith, in'.0); within = in'.1 }, m.1)
 
   pub met_skipped :
-      (bytes : ℕ) → block_is d stop at ≡ Block.Skipped bytes → BlockPassed d stop at bytes × (reports d at ≡ false)
+      (bytes : ℕ) → block_is d stop at ≡ Ok (Block.Skipped bytes) → BlockPassed d stop at bytes × (reports d at ≡ false)
   unfolding block_is
   met_skipped bytes e =
       let m : _ = block_unless_skipped (block_check d stop at) (reports d at) (block_size d at) bytes e in
       let in' : _ = block_inside d stop at m.0 in
       (record { check = m.0; size = m.2; inside = omega (arith, in'.0, m.2); within = in'.1 }, m.1)
 
-  pub met_refused : (n : ℕ) → block_is d stop at ≡ Block.Refused n → block_check d stop at ≡ refused n at
+  pub met_refused : (n : RefusalNumber) → block_is d stop at ≡ Err n → block_check d stop at ≡ refused n at
   unfolding block_is
   met_refused n e =
       let r : _ = block_unless_refused (block_check d stop at) (reports d at) (block_size d at) n e in
       r.1
-      ∙ ap (refused n) (block_refuses (λ (number place : ℕ). place ≡ at) d stop at refl refl n r.0 r.1)
+      ∙ ap (refused n)
+      (block_refuses (λ (number : RefusalNumber) (place : ℕ). place ≡ at) d stop at refl refl n r.0 r.1)
 
 -- no block gives more than one item
 pub one_or_none : (t : Bool) → cond t 1 0 ≤ 1
@@ -166,50 +140,53 @@ one_or_none false = omega arith
 
 -- ---- report_is
 
-pub report_outside : (d : List ℕ) (sender at : ℕ) → length d - at < 32 → report_is d sender at ≡ BlockReport.Outside
-unfolding report_is
-report_outside d sender at h = rw (lt-ltb (length d - at) 32 h)
-
 pub report_inside :
-    (d : List ℕ) (sender at : ℕ) → 32 ≤ length d - at → report_is d sender at ≡ BlockReport.Fields (report_at d sender at)
+    (d : List ℕ) (sender at : ℕ) → 32 ≤ length d - at → report_is d sender at ≡ Some (report_at d sender at)
 unfolding report_is
 report_inside d sender at h = rw (le-ltb (length d - at) 32 h)
 
 -- ---- block_item
 
 module _ (d : List ℕ) (sender stop at : ℕ) where
-  pub item_of : {x : Block} → block_is d stop at ≡ x → block_item d sender stop at ≡ block_item_of x (report_at d sender at)
+  pub item_of :
+      {x : Result Block RefusalNumber} → block_is d stop at ≡ x
+      → block_item d sender stop at ≡ block_item_of x (report_at d sender at)
   unfolding block_item
-  item_of e = ap (λ (x : Block). block_item_of x (report_at d sender at)) e
+  item_of e = ap (λ (x : Result Block RefusalNumber). block_item_of x (report_at d sender at)) e
 
   -- the other way: what an answer says of the block
 
   item_of_report :
-      (x : Block) (s r : Report) → block_item_of x s ≡ BlockItem.Report r → (x ≡ Block.Report) × (r ≡ s)
-  item_of_report Block.Report s r e = (refl, cc)
-  item_of_report (Block.Skipped n) s r e = let z : ◌≡◌ {A = ℕ} 0 1 = cc in absurd (omega arith)
-  item_of_report (Block.Refused n) s r e = let z : ◌≡◌ {A = ℕ} 0 1 = cc in absurd (omega arith)
+      (x : Result Block RefusalNumber) (s r : Report) → block_item_of x s ≡ Ok (BlockItem.Report r)
+      → (x ≡ Ok Block.Report) × (r ≡ s)
+  item_of_report (Ok Block.Report) s r e = (refl, cc)
+  item_of_report (Ok (Block.Skipped n)) s r e = let z : ◌≡◌ {A = ℕ} 0 1 = cc in absurd (omega arith)
+  item_of_report (Err n) s r e = let z : ◌≡◌ {A = ℕ} 0 1 = cc in absurd (omega arith)
 
-  item_of_skipped : (x : Block) (s : Report) (n : ℕ) → block_item_of x s ≡ BlockItem.Skipped n → x ≡ Block.Skipped n
-  item_of_skipped Block.Report s n e = let z : ◌≡◌ {A = ℕ} 0 1 = cc in absurd (omega arith)
-  item_of_skipped (Block.Skipped m) s n e = let same : m ≡ n = cc in ap Block.Skipped same
-  item_of_skipped (Block.Refused m) s n e = let z : ◌≡◌ {A = ℕ} 0 1 = cc in absurd (omega arith)
+  item_of_skipped :
+      (x : Result Block RefusalNumber) (s : Report) (n : ℕ) → block_item_of x s ≡ Ok (BlockItem.Skipped n)
+      → x ≡ Ok (Block.Skipped n)
+  item_of_skipped (Ok Block.Report) s n e = let z : ◌≡◌ {A = ℕ} 0 1 = cc in absurd (omega arith)
+  item_of_skipped (Ok (Block.Skipped m)) s n e = let same : m ≡ n = cc in ap (λ (k : ℕ). Ok (Block.Skipped k)) same
+  item_of_skipped (Err m) s n e = let z : ◌≡◌ {A = ℕ} 0 1 = cc in absurd (omega arith)
 
-  item_of_refused : (x : Block) (s : Report) (n : ℕ) → block_item_of x s ≡ BlockItem.Refused n → x ≡ Block.Refused n
-  item_of_refused Block.Report s n e = let z : ◌≡◌ {A = ℕ} 0 1 = cc in absurd (omega arith)
-  item_of_refused (Block.Skipped m) s n e = let z : ◌≡◌ {A = ℕ} 0 1 = cc in absurd (omega arith)
-  item_of_refused (Block.Refused m) s n e = let same : m ≡ n = cc in ap Block.Refused same
+  item_of_refused :
+      (x : Result Block RefusalNumber) (s : Report) (n : RefusalNumber) → block_item_of x s ≡ Err n → x ≡ Err n
+  item_of_refused (Ok Block.Report) s n e = let z : ◌≡◌ {A = ℕ} 0 1 = cc in absurd (omega arith)
+  item_of_refused (Ok (Block.Skipped m)) s n e = let z : ◌≡◌ {A = ℕ} 0 1 = cc in absurd (omega arith)
+  item_of_refused (Err m) s n e = let same : m ≡ n = cc in ap Err same
 
   pub gave_report :
-      (r : Report) → block_item d sender stop at ≡ BlockItem.Report r
-      → (block_is d stop at ≡ Block.Report) × (r ≡ report_at d sender at)
+      (r : Report) → block_item d sender stop at ≡ Ok (BlockItem.Report r)
+      → (block_is d stop at ≡ Ok Block.Report) × (r ≡ report_at d sender at)
   unfolding block_item
   gave_report r e = item_of_report (block_is d stop at) (report_at d sender at) r e
 
-  pub gave_skipped : (n : ℕ) → block_item d sender stop at ≡ BlockItem.Skipped n → block_is d stop at ≡ Block.Skipped n
+  pub gave_skipped :
+      (n : ℕ) → block_item d sender stop at ≡ Ok (BlockItem.Skipped n) → block_is d stop at ≡ Ok (Block.Skipped n)
   unfolding block_item
   gave_skipped n e = item_of_skipped (block_is d stop at) (report_at d sender at) n e
 
-  pub gave_refused : (n : ℕ) → block_item d sender stop at ≡ BlockItem.Refused n → block_is d stop at ≡ Block.Refused n
+  pub gave_refused : (n : RefusalNumber) → block_item d sender stop at ≡ Err n → block_is d stop at ≡ Err n
   unfolding block_item
   gave_refused n e = item_of_refused (block_is d stop at) (report_at d sender at) n e

@@ -1,13 +1,13 @@
 -- How large the numbers are that bytes spell, and where a source is read.
 use Prim.Native.Nat.{ℕ, ◌+◌, ◌-◌, ◌^◌, ◌≤◌, ◌<◌}
+use Rattle.std.specs.Prelude.{Some, None}
 use mathlib.Core.Path.{◌≡◌, refl}
 use mathlib.Core.List.{List}
 use mathlib.Core.Bool.{Bool, true, false, cond, ◌||◌}
 use lib.ListN.{length}
 use lib.Dec.{ltb}
 use native.Mathlib.Omega.{arith}
-use borrow.Author.Tests.{lt-ltb, le-ltb, ltb-false}
-use Rattle.packet.specs.declared.bytes.Source.{Source}
+use borrow.Author.Tests.{le-ltb, ltb-false}
 use Rattle.packet.specs.Answers.{source_is}
 use Rattle.packet.specs.Bytes.{AreBytes, be32, be64}
 
@@ -22,30 +22,21 @@ be64_bound d at h = omega (arith, be32_bound d at h, be32_bound d (at + 4) h)
 
 -- ---- source_is
 
-pub source_past_end : (d : List ℕ) (stop at : ℕ) → length d < stop → source_is d stop at ≡ Source.Outside
-unfolding source_is
-source_past_end d stop at h = rw (lt-ltb (length d) stop h)
-
-pub source_outside :
-    (d : List ℕ) (stop at : ℕ) → stop ≤ length d → stop - at < 4 → source_is d stop at ≡ Source.Outside
-unfolding source_is
-source_outside d stop at h less = rw (le-ltb (length d) stop h, lt-ltb (stop - at) 4 less)
-
 pub source_inside :
-    (d : List ℕ) (stop at : ℕ) → stop ≤ length d → 4 ≤ stop - at → source_is d stop at ≡ Source.Number (be32 d at)
+    (d : List ℕ) (stop at : ℕ) → stop ≤ length d → 4 ≤ stop - at → source_is d stop at ≡ Some (be32 d at)
 unfolding source_is
 source_inside d stop at h more = rw (le-ltb (length d) stop h, le-ltb (stop - at) 4 more)
 
 -- what an answer says of the place
 pub source_read :
-    (d : List ℕ) (stop at source : ℕ) → source_is d stop at ≡ Source.Number source
+    (d : List ℕ) (stop at source : ℕ) → source_is d stop at ≡ Some source
     → (stop ≤ length d) × (4 ≤ stop - at) × (source ≡ be32 d at)
 unfolding source_is
 source_read d stop at source e = go (ltb (length d) stop) refl (ltb (stop - at) 4) refl e
   where
     go :
         (s : Bool) → ltb (length d) stop ≡ s → (t : Bool) → ltb (stop - at) 4 ≡ t
-        → cond (s || t) Source.Outside (Source.Number (be32 d at)) ≡ Source.Number source
+        → cond (s || t) None (Some (be32 d at)) ≡ Some source
         → (stop ≤ length d) × (4 ≤ stop - at) × (source ≡ be32 d at)
     go true s t f e = let z : ◌≡◌ {A = ℕ} 0 1 = cc in absurd (omega arith)
     go false s true f e = let z : ◌≡◌ {A = ℕ} 0 1 = cc in absurd (omega arith)

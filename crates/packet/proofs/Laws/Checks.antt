@@ -1,12 +1,13 @@
 -- Laws of checks in turn: what holds once they have passed, and what holds of a refusal.
 use Prim.Native.Nat.{ℕ}
+use Rattle.refusals.specs.declared.RefusalNumber.{RefusalNumber}
 use mathlib.Core.Path.{◌≡◌, refl}
 use mathlib.Core.Bool.{Bool, true, false}
 use native.Mathlib.Omega.{arith}
 use Rattle.packet.specs.Checks.{Check, passed, refused, refuse_if, and_then}
 
 pub check_passes :
-    (t : Bool) (number place : ℕ) (later : Check) → refuse_if t number place later ≡ passed
+    (t : Bool) (number : RefusalNumber) (place : ℕ) (later : Check) → refuse_if t number place later ≡ passed
     → (t ≡ false) × (later ≡ passed)
 check_passes false number place later h = (refl, h)
 check_passes true number place later h = let z : ◌≡◌ {A = ℕ} 0 1 = cc in absurd (omega arith)
@@ -16,15 +17,16 @@ both_pass passed b h = (refl, h)
 both_pass (refused number place) b h = let z : ◌≡◌ {A = ℕ} 0 1 = cc in absurd (omega arith)
 
 -- a statement about the number and the place of every refusal that a check gives
-abbrev pub Refuses : (ℕ → ℕ → Type 0) → Check → Type 0
-Refuses P check = (number place : ℕ) → check ≡ refused number place → P number place
+abbrev pub Refuses : (RefusalNumber → ℕ → Type 0) → Check → Type 0
+Refuses P check = (number : RefusalNumber) (place : ℕ) → check ≡ refused number place → P number place
 
-module _ (P : ℕ → ℕ → Type 0) where
+module _ (P : RefusalNumber → ℕ → Type 0) where
   pub passed_refuses : Refuses P passed
   passed_refuses number place e = let z : ◌≡◌ {A = ℕ} 0 1 = cc in absurd (omega arith)
 
   pub refuse_if_refuses :
-      (t : Bool) (n p : ℕ) (later : Check) → P n p → Refuses P later → Refuses P (refuse_if t n p later)
+      (t : Bool) (n : RefusalNumber) (p : ℕ) (later : Check) → P n p → Refuses P later
+      → Refuses P (refuse_if t n p later)
   refuse_if_refuses false n p later h rest number place e = rest number place e
   refuse_if_refuses true n p later h rest number place e =
       let a : n ≡ number = cc in

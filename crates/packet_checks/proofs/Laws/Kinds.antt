@@ -3,7 +3,7 @@ use Prim.Native.Nat.{ℕ, ◌+◌, ◌*◌}
 use mathlib.Core.Path.{◌≡◌, refl}
 use mathlib.Core.Bool.{Bool, true, false}
 use lib.Dec.{eqb}
-use borrow.Author.Tests.{eqb-true, ne_eqb}
+use borrow.Author.Tests.{eqb-true}
 use Rattle.packet_checks.specs.declared.kind.PacketType.{PacketType}
 use Rattle.packet_checks.specs.Header.{kind_of}
 
@@ -18,7 +18,8 @@ Carries type number PacketType.Other = type ≡ type
 
 pub kind_carries : (type number : ℕ) → Carries type number (kind_of type number)
 unfolding kind_of
-kind_carries type number = go (eqb type 200) (eqb type 201) (eqb type 203) (eqb type 207) (eqb type 211) refl refl refl refl refl
+kind_carries type number =
+    go (eqb type 200) (eqb type 201) (eqb type 203) (eqb type 207) (eqb type 211) refl refl refl refl refl
   where
     go :
         (a b c d e : Bool) → eqb type 200 ≡ a → eqb type 201 ≡ b → eqb type 203 ≡ c → eqb type 207 ≡ d → eqb type 211 ≡ e
@@ -29,10 +30,3 @@ kind_carries type number = go (eqb type 200) (eqb type 201) (eqb type 203) (eqb 
     go false false false true e f g h i j = rw (f, g, h, i, kind_of) refl
     go false false false false true f g h i j = rw (f, g, h, i, j, kind_of) (refl, eqb-true type 211 j)
     go false false false false false f g h i j = rw (f, g, h, i, j, kind_of) refl
-
-pub kind_other :
-    (type number : ℕ) → (type ≡ 200 → ⊥) → (type ≡ 201 → ⊥) → (type ≡ 203 → ⊥) → (type ≡ 207 → ⊥) → (type ≡ 211 → ⊥)
-    → kind_of type number ≡ PacketType.Other
-unfolding kind_of
-kind_other type number a b c d e =
-    rw (ne_eqb type 200 a, ne_eqb type 201 b, ne_eqb type 203 c, ne_eqb type 207 d, ne_eqb type 211 e)

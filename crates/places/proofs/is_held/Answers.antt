@@ -1,12 +1,9 @@
 -- The bit that the shift brings down is the definition's, for a place below 64.
 use mathlib.Core.Path.{refl}
-use borrow.Author.Tests.{lt-ltb, le-ltb}
+use borrow.Author.Tests.{lt-ltb}
 use Rattle.places.specs.Places.{is_held}
 use Rattle.places.proofs.is_held.Goals as goal
 
-pub returns-then-place-ge64 : goal.returns-then-place-ge64
-returns-then-place-ge64 c = rw (le-ltb _ 64 c.if-place-ge64.true) refl
-
-pub returns : goal.returns
+pub returns-then-place-lt-PLACES : goal.returns-then-place-lt-PLACES
 unfolding is_held
-returns c = rw (lt-ltb _ 64 c.if-place-ge64.false) refl
+returns-then-place-lt-PLACES c = rw (lt-ltb _ 64 c.if-place-lt-PLACES.true) refl

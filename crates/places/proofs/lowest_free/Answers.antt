@@ -1,10 +1,12 @@
--- The expression is the definition's, and what it means is the law `lowest_free-place`.
+-- The word's trailing ones are the definition's, and what they mean is the law `lowest_free-place`.
 use borrow.Author.Rules.{rules}
-use mathlib.Core.Path.{refl}
 use Rattle.places.specs.Places.{lowest_free}
+use Rattle.places.specs.Free.{IsLowestFree}
 use Rattle.places.proofs.Laws.Free.{lowest_free-place}
 use Rattle.places.proofs.lowest_free.Goals as goal
 
 pub returns : goal.returns
 unfolding lowest_free
-returns c = (refl, lowest_free-place 64 c.args.word (search rules))
+returns c =
+    let law : IsLowestFree 64 c.args.word (lowest_free 64 c.args.word) = lowest_free-place 64 c.args.word (search rules) in
+    search (rules, law)

@@ -4,7 +4,8 @@ use mathlib.Core.Bool.{Bool, true, false, cond}
 use mathlib.Core.List.{List, [], ◌∷◌, Permᴰ}
 use mathlib.Core.Path.{◌≡◌, refl, sym, ap, ap₂, subst, ◌∙◌}
 use Rattle.register.specs.declared.Member.{Member}
-use Rattle.register.specs.Register.{Opening, Rows, Call, any, has_number, after, answers}
+use Rattle.register.specs.declared.Opening.{Opening}
+use Rattle.register.specs.Register.{Rows, Call, any, has_number, after, answers}
 use Rattle.register.specs.Tallies.{Members, records_of, tally_in, with_tallies, tally_behind, tally_after}
 use Rattle.register.specs.Tallies.{members_after, members_after_all}
 use Rattle.register.specs.Promise.{Unique}

@@ -8,7 +8,8 @@ use mathlib.Core.Logic.{◌↔◌}
 use mathlib.Core.Path.{◌≡◌, refl, sym, ap, ap₂, subst, ◌∙◌}
 use lib.ListN.{length}
 use native.Mathlib.Omega.{arith}
-use Rattle.register.specs.Register.{Opening, Rows, Call, renewed, answer, answers}
+use Rattle.register.specs.declared.Opening.{Opening}
+use Rattle.register.specs.Register.{Rows, Call, renewed, answer, answers}
 use Rattle.register.specs.Tallies.{Members, records_of, tally_in, members_after, members_after_all}
 use Rattle.register.specs.Promise.{Unique}
 use Rattle.register.specs.ArrivalOrder.{AllAccepted, FromDifferentSources, AllFromDifferentSources}

@@ -11,7 +11,8 @@ use borrow.Author.Tests.{eqb-true, ne_eqb}
 use Rattle.origin.specs.Origins.{same_origin}
 use Rattle.register.specs.declared.Record.{Record}
 use Rattle.register.specs.declared.Reading.{Reading}
-use Rattle.register.specs.Register.{Opening, Rows, Call, any, has_number, is_held_elsewhere, renewed, report_checks}
+use Rattle.register.specs.declared.Opening.{Opening}
+use Rattle.register.specs.Register.{Rows, Call, any, has_number, is_held_elsewhere, renewed, report_checks}
 use Rattle.register.specs.Register.{has_no_room, answer}
 use Rattle.register.specs.Tallies.{Members, records_of, tally_in, with_tallies, tally_behind, tally_after}
 use Rattle.register.specs.Tallies.{members_after}

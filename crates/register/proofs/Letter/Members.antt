@@ -9,7 +9,8 @@ use native.Mathlib.Omega.{arith}
 use borrow.Author.Tests.{eqb-true, eqb-false, eq-eqb}
 use Rattle.register.specs.declared.Record.{Record}
 use Rattle.register.specs.declared.Reading.{Reading}
-use Rattle.register.specs.Register.{Opening, Rows, Call, has_number, renewed}
+use Rattle.register.specs.declared.Opening.{Opening}
+use Rattle.register.specs.Register.{Rows, Call, has_number, renewed}
 use Rattle.register.specs.Promise.{Unique}
 use Rattle.register.specs.Letter.{Event, got, History, OfEachCall, Ends, Stands}
 use Rattle.register.proofs.Rows.{clash}

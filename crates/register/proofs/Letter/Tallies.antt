@@ -11,7 +11,8 @@ use native.Mathlib.Omega.{arith}
 use borrow.Author.Tests.{eqb-true, eq-eqb, ltb-false, le-ltb}
 use Rattle.refusals.specs.Refusals.{other_origin}
 use Rattle.register.specs.declared.Record.{Record}
-use Rattle.register.specs.Register.{Opening, Call, filter, any, has_number, answer, after}
+use Rattle.register.specs.declared.Opening.{Opening}
+use Rattle.register.specs.Register.{Call, filter, any, has_number, answer, after}
 use Rattle.register.specs.Tallies.{Members, records_of, tally_limit, cut_at_limit, raised, is_under, tally_in, tally_behind}
 use Rattle.register.specs.Tallies.{tally_after, members_after}
 use Rattle.register.specs.Letter.{Event, got, History, AreAll, NotHeld, Joins, SinceJoined, got_other_origin}

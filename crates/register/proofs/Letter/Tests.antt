@@ -14,7 +14,8 @@ use Rattle.origin.specs.Origins.{same_origin}
 use Rattle.origin.proofs.Laws.{same_origin_equal, equal_same_origin}
 use Rattle.register.specs.declared.Record.{Record}
 use Rattle.register.specs.declared.Reading.{Reading}
-use Rattle.register.specs.Register.{Opening, Rows, Call, is_refused_opening, filter, any, presents, has_number}
+use Rattle.register.specs.declared.Opening.{Opening}
+use Rattle.register.specs.Register.{Rows, Call, is_refused_opening, filter, any, presents, has_number}
 use Rattle.register.specs.Register.{is_held_elsewhere, is_other_stream, report_checks, has_no_room, farewell_checks}
 use Rattle.register.specs.Register.{answer, fresh_at}
 use Rattle.register.specs.Promise.{Unique}

@@ -12,7 +12,8 @@ use Rattle.refusals.specs.Refusals.{other_origin}
 use Rattle.register.specs.declared.Record.{Record}
 use Rattle.register.specs.declared.Member.{Member}
 use Rattle.register.specs.declared.Reading.{Reading}
-use Rattle.register.specs.Register.{Opening, Rows, Call, filter, has_number, is_other_stream, answer, fresh_at}
+use Rattle.register.specs.declared.Opening.{Opening}
+use Rattle.register.specs.Register.{Rows, Call, filter, has_number, is_other_stream, answer, fresh_at}
 use Rattle.register.specs.Register.{any, accepted, after, answers}
 use Rattle.register.specs.Tallies.{Members, records_of, raised, is_under, tally_in, tally_after, members_after}
 use Rattle.register.specs.Tallies.{members_after_all}

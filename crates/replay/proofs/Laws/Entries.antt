@@ -1,5 +1,7 @@
 -- Laws of running entries: an entry begins, its calls come off one by one, and its row is put when none is left.
 use Prim.Native.Nat.{ℕ, suc, ◌+◌, ◌-◌, ◌*◌, ◌≤◌}
+use Rattle.std.specs.Prelude.{Result, Ok, Err}
+use Rattle.idms.specs.declared.Refusal.{Refusal}
 use mathlib.Core.Path.{◌≡◌, refl, sym, ap, subst, ◌∙◌}
 use mathlib.Core.Bool.{false}
 use mathlib.Core.List.{List, [], ◌∷◌, ◌++◌}
@@ -11,12 +13,12 @@ use Rattle.idms.specs.declared.Placed.{Placed}
 use Rattle.idms.specs.declared.Report.{Report}
 use Rattle.idms.specs.declared.Settings.{Settings}
 use Rattle.origin.specs.declared.Origin.{Origin}
+use Rattle.refusals.specs.declared.RefusalNumber.{RefusalNumber}
+use Rattle.refusals.specs.Refusals.{refusal_number}
 use Rattle.packet.specs.Checks.{Check, passed, refused}
-use Rattle.datagram.specs.declared.Count.{Count}
 use Rattle.datagram.specs.Datagram.{datagram_check, datagram_items}
 use Rattle.datagram.specs.Answers.{refusal, item_count}
 use Rattle.rtcp.specs.declared.cursor.Cursor.{Cursor}
-use Rattle.rtcp.specs.declared.cursor.Opened.{Opened}
 use Rattle.rtcp.specs.Cursor.{start, given}
 use Rattle.rtcp.specs.Answers.{cursor_on}
 use Rattle.rtcp.proofs.Theorems.{count_bound}
@@ -75,56 +77,57 @@ Begins t e calls row = (calls ≡ entry_calls e) × (row_with_more row (answers_
 
 module _ (t : Table) (e : RecordedDatagram) where
   -- the calls of as many items as a count says
-  abbrev counted : Count → List Call
+  abbrev counted : Result ℕ Refusal → List Call
   counted count = calls_in e.origin e.at (given (items_in count) e.datagram start)
 
   begins_passed :
       datagram_check false e.datagram ≡ passed
-      → Begins t e (counted (Count.Items (length (datagram_items e.datagram))))
-      (first_row (Count.Items (length (datagram_items e.datagram))))
+      → Begins t e (counted (Ok (length (datagram_items e.datagram))))
+      (first_row (Ok (length (datagram_items e.datagram))))
   unfolding entry_calls entry_row first_row cursor_on
   begins_passed k =
       let d = e.datagram in
       let n = length (datagram_items d) in
-      let opens : cursor_on false d ≡ Opened.Items n start = rw k refl in
-      let calls : counted (Count.Items n) ≡ entry_calls e =
+      let opens : cursor_on false d ≡ Ok (n, start) = rw k refl in
+      let calls : counted (Ok n) ≡ entry_calls e =
       ap (calls_in e.origin e.at) (cursor_items false d n start opens).1 ∙ rw k refl in
       let numbers = answers_from t (entry_calls e) in
       let sum : 0 + accepted_in numbers ≡ accepted_in numbers = omega arith in (
         calls,
-        ap (λ (those : List Call). row_with_more (first_row (Count.Items n)) (answers_from t those)) calls
+        ap (λ (those : List Call). row_with_more (first_row (Ok n)) (answers_from t those)) calls
             ∙ ap (λ (accepted : ℕ). n ∷ accepted ∷ first_refusal numbers ∷ []) sum
             ∙ ap (λ (check : Check). entry_row_unless check n numbers) (sym k),
       )
 
   begins_refused :
-      (number place : ℕ) → datagram_check false e.datagram ≡ refused number place
-      → Begins t e (counted (Count.Refused (refusal number place))) (first_row (Count.Refused (refusal number place)))
+      (number : RefusalNumber) (place : ℕ) → datagram_check false e.datagram ≡ refused number place
+      → Begins t e (counted (Err (refusal number place))) (first_row (Err (refusal number place)))
   unfolding entry_calls entry_row first_row given calls_in answers_from accepted_in first_refusal
-  begins_refused number place k = rw (k, first_of_two-none number) (refl, refl)
+  begins_refused number place k = rw (k, first_of_two-none (refusal_number number)) (refl, refl)
 
   pub entry_begins :
-      (count : Count) → count ≡ item_count false e.datagram → Begins t e (counted count) (first_row count)
+      (count : Result ℕ Refusal) → count ≡ item_count false e.datagram → Begins t e (counted count) (first_row count)
   unfolding item_count
   entry_begins count o = go (datagram_check false e.datagram) refl
     where
       go :
           (k : Check) → datagram_check false e.datagram ≡ k → Begins t e (counted count) (first_row count)
       go passed k =
-          let counts : Count.Items (length (datagram_items e.datagram)) ≡ count = sym (rw k at o) in
-          subst (λ (c : Count). Begins t e (counted c) (first_row c)) counts (begins_passed k)
+          let counts : Ok (length (datagram_items e.datagram)) ≡ count = sym (rw k at o) in
+          subst (λ (c : Result ℕ Refusal). Begins t e (counted c) (first_row c)) counts (begins_passed k)
       go (refused number place) k =
-          let counts : Count.Refused (refusal number place) ≡ count = sym (rw k at o) in
-          subst (λ (c : Count). Begins t e (counted c) (first_row c)) counts (begins_refused number place k)
+          let counts : Err (refusal number place) ≡ count = sym (rw k at o) in
+          subst (λ (c : Result ℕ Refusal). Begins t e (counted c) (first_row c)) counts (begins_refused number place k)
 
 -- no datagram has more items than words
 pub begins_few :
-    (d : List ℕ) (count : Count) → count ≡ item_count false d → (first_row count).accepted + items_in count ≤ 512
+    (d : List ℕ) (count : Result ℕ Refusal) → count ≡ item_count false d
+    → (first_row count).accepted + items_in count ≤ 512
 unfolding first_row
-begins_few d (Count.Items n) o =
+begins_few d (Ok n) o =
     let bound : _ = count_bound false d n (sym o) in
     omega (arith, bound.0, bound.1)
-begins_few d (Count.Refused r) o = omega arith
+begins_few d (Err r) o = omega arith
 
 -- ---- EntriesLeft: what the loop keeps. The entries `es₀` were to be run on the table `t₀`; the table is `t`, in entry
 -- i `calls` are left and its row is `row` so far, its reading is `at`, and behind it the entries `later` are left.

@@ -2,24 +2,15 @@
 use Prim.Native.Nat.{ℕ, suc, zero, ◌+◌, ◌-◌, ◌≤◌, ◌<◌}
 use mathlib.Core.Path.{◌≡◌, refl, ap, ◌∙◌}
 use mathlib.Core.Bool.{Bool, true, false, not, ◌||◌}
-use mathlib.Core.List.{List, [], ◌∷◌, ◌++◌, append-nil}
+use mathlib.Core.List.{List, [], ◌∷◌}
 use lib.ListN.{length, take, drop}
 use lib.Dec.{ltb, eqb}
-use lib.Seq.{paste, drop-length}
 use native.Mathlib.Omega.{arith}
-use borrow.Author.Tests.{lt-ltb, le-ltb, ltb-false, eqb-true}
+use borrow.Author.Tests.{le-ltb, ltb-false, eqb-true}
 use Rattle.replay.specs.Recording.{recording_head_size, entry_count, entry_size, entry_place, body_length}
 use Rattle.replay.specs.Recording.{recording_limit, entry_limit}
 use Rattle.replay.specs.Recording.{RecordedDatagram, entry_reading, entry_origin, entries_from, bodies_end}
 use Rattle.replay.specs.Recording.{entries_in, is_bad_layout}
-
--- a copy over all of a list is what was copied
-pub paste_all : (l s : List ℕ) (n : ℕ) → n ≡ length l → paste l 0 s n ≡ take n s
-paste_all l s n e =
-    let all : 0 + n ≡ length l = omega (arith, e) in
-    ap (λ (k : ℕ). take n s ++ drop k l) all
-    ∙ ap (λ (r : List ℕ). take n s ++ r) (drop-length l)
-    ∙ append-nil (take n s)
 
 -- ---- bodies_end and entries_from, one entry at a time
 
@@ -146,48 +137,17 @@ good_layout f e =
     go false a false b false c true d g _ e = let z : ◌≡◌ {A = ℕ} 0 1 = cc in absurd (omega arith)
     go false a false b false c false d false g e = let z : ◌≡◌ {A = ℕ} 0 1 = cc in absurd (omega arith)
 
--- each way of 25, in the order in which they are tried
-
-pub bad_long : (f : List ℕ) → recording_limit < length f → true ≡ is_bad_layout f
+-- the last way of 25, where no other applies
+pub bad_bodies :
+    (f : List ℕ) → length f ≤ recording_limit → recording_head_size ≤ length f → entry_count f ≤ entry_limit
+    → entry_place (entry_count f) ≤ length f → (end : ℕ) → end ≡ bodies f
+    → not (eqb end (length f)) ≡ is_bad_layout f
 unfolding is_bad_layout
-bad_long f h = rw (lt-ltb recording_limit (length f) h) refl
-
-pub bad_head :
-    (f : List ℕ) → length f ≤ recording_limit → length f < recording_head_size → true ≡ is_bad_layout f
-unfolding is_bad_layout
-bad_head f a h = rw (le-ltb recording_limit (length f) a, lt-ltb (length f) recording_head_size h) refl
-
-module _ (f : List ℕ) (a : length f ≤ recording_limit) (b : recording_head_size ≤ length f) where
-  pub bad_count : entry_limit < entry_count f → true ≡ is_bad_layout f
-  unfolding is_bad_layout
-  bad_count h =
-      rw (
-        le-ltb recording_limit (length f) a,
-        le-ltb (length f) recording_head_size b,
-        lt-ltb entry_limit (entry_count f) h,
-      )
-      refl
-
-  module _ (c : entry_count f ≤ entry_limit) where
-    pub bad_contents : length f < entry_place (entry_count f) → true ≡ is_bad_layout f
-    unfolding is_bad_layout
-    bad_contents h =
-        rw (
-          le-ltb recording_limit (length f) a,
-          le-ltb (length f) recording_head_size b,
-          le-ltb entry_limit (entry_count f) c,
-          lt-ltb (length f) (entry_place (entry_count f)) h,
-        ) refl
-
-    pub bad_bodies :
-        (end : ℕ) → entry_place (entry_count f) ≤ length f → end ≡ bodies f
-        → not (eqb end (length f)) ≡ is_bad_layout f
-    unfolding is_bad_layout
-    bad_bodies end h e =
-        rw (
-          e,
-          le-ltb recording_limit (length f) a,
-          le-ltb (length f) recording_head_size b,
-          le-ltb entry_limit (entry_count f) c,
-          le-ltb (length f) (entry_place (entry_count f)) h,
-        ) refl
+bad_bodies f a b c h end e =
+    rw (
+      e,
+      le-ltb recording_limit (length f) a,
+      le-ltb (length f) recording_head_size b,
+      le-ltb entry_limit (entry_count f) c,
+      le-ltb (length f) (entry_place (entry_count f)) h,
+    ) refl

@@ -1,15 +1,18 @@
 -- What each return of a replay answers, from the tests that led there.
 use Prim.Native.Nat.{ℕ, ◌*◌, ◌≤◌, ◌<◌}
+use Rattle.std.specs.Prelude.{Result, Ok, Err}
+use Rattle.register.specs.declared.Target.{Target}
+use Rattle.refusals.specs.declared.RefusalNumber.{RefusalNumber}
 use mathlib.Core.Path.{◌≡◌, refl, sym, ap, ◌∙◌}
 use mathlib.Core.Bool.{Bool, true, false}
 use mathlib.Core.List.{List, [], ◌++◌}
 use lib.ListN.{length, drop, replicate}
 use native.Mathlib.Omega.{arith}
 use borrow.Author.Tests.{lt-ltb, le-ltb}
-use Rattle.refusals.specs.Refusals.{short_buffer, bad_opening, none_counted, bad_layout}
+use Rattle.refusals.specs.Refusals.{bad_opening}
 use Rattle.packet.specs.Bytes.{be32}
-use Rattle.register.specs.declared.Choice.{Choice}
-use Rattle.register.specs.Register.{Opening, is_refused_opening}
+use Rattle.register.specs.declared.Opening.{Opening}
+use Rattle.register.specs.Register.{is_refused_opening}
 use Rattle.table.specs.declared.Table.{Table}
 use Rattle.table.specs.declared.Answered.{Answered}
 use Rattle.table.specs.Members.{empty_table, sources_of}
@@ -37,10 +40,6 @@ refused_with o h = go (is_refused_opening o) refl
     go true b = b
     go false b = absurd (h (rw b refl))
 
-number_of-refused : (o : Opening) → is_refused_opening o ≡ true → (opened o).number ≡ bad_opening
-unfolding opened
-number_of-refused o e = rw e refl
-
 taken_with : (o : Opening) → (opened o).number ≡ 0 → is_refused_opening o ≡ false
 unfolding opened
 taken_with o e = go (is_refused_opening o) refl
@@ -61,10 +60,10 @@ opening-read f e g h = rw (e, g, h) refl
 
 module _ (f lent : List ℕ) where
   -- an answer and the rows afterwards are what the definitions say
-  abbrev Answers : Replayed → List ℕ → Type 0
+  abbrev Answers : Result Replayed RefusalNumber → List ℕ → Type 0
   Answers r after = (r ≡ replayed f lent) × (after ≡ replayed_rows f lent)
 
-  pub replayed_layout : is_bad_layout f ≡ true → Answers (Replayed.Refused bad_layout) lent
+  pub replayed_layout : is_bad_layout f ≡ true → Answers (Err RefusalNumber.BadLayout) lent
   unfolding replayed replayed_rows
   replayed_layout e = rw e (refl, refl)
 
@@ -72,19 +71,18 @@ module _ (f lent : List ℕ) where
     number : a.number ≡ (opened (opening_in f)).number
     number = ap (λ (b : Answered). b.number) opens
 
-    pub replayed-opening : (a.number ≡ 0 → ⊥) → Answers (Replayed.Refused a.number) lent
+    pub replayed-opening : (a.number ≡ 0 → ⊥) → Answers (Err RefusalNumber.BadOpening) lent
     unfolding replayed replayed_rows
     replayed-opening h =
         let bad : is_refused_opening (opening_in f) ≡ true = refused_with (opening_in f) (λ z. h (number ∙ z)) in
-        let twelve : a.number ≡ bad_opening = number ∙ number_of-refused (opening_in f) bad in
-        rw (good, bad, twelve) (refl, refl)
+        rw (good, bad) (refl, refl)
 
     module _ (accepted : a.number ≡ 0) (n : ℕ) (count : n ≡ entry_count f) where
       taken : is_refused_opening (opening_in f) ≡ false
       taken = taken_with (opening_in f) (sym number ∙ accepted)
 
       pub replayed-short :
-          length lent < entry_row_length * n → Answers (Replayed.Refused short_buffer) lent
+          length lent < entry_row_length * n → Answers (Err RefusalNumber.ShortBuffer) lent
       unfolding replayed replayed_rows
       replayed-short h =
           let less : length lent < entry_row_length * entry_count f = omega (arith, h, count) in
@@ -95,9 +93,9 @@ module _ (f lent : List ℕ) where
         enough = omega (arith, room, count)
 
         pub replayed_entries :
-            (c : Choice) (after : List ℕ) → c ≡ choice_at_end a.table (entries_in f)
+            (c : Result Target RefusalNumber) (after : List ℕ) → c ≡ choice_at_end a.table (entries_in f)
             → after ≡ entry_rows a.table (entries_in f) ++ drop (entry_row_length * n) lent
-            → Answers (Replayed.Entries n c) after
+            → Answers (Ok (record { entries = n; choice = c })) after
         unfolding replayed replayed_rows
         replayed_entries c after e g =
             let table : a.table ≡ (opened (opening_in f)).table = ap (λ (b : Answered). b.table) opens in
@@ -111,17 +109,17 @@ module _ (f lent : List ℕ) where
             (λ (k : ℕ). entry_rows (opened (opening_in f)).table (entries_in f) ++ drop
             (entry_row_length * k) lent) count in
             rw (good, taken, le-ltb (length lent) (entry_row_length * entry_count f) enough)
-            (ap (λ (k : ℕ). Replayed.Entries k c) count ∙ ap (Replayed.Entries (entry_count f)) choice, rows)
+            (cc, rows)
 
-        pub replayed-none : n ≡ 0 → Answers (Replayed.Entries 0 (Choice.Refused none_counted)) lent
+        pub replayed-none : n ≡ 0 → Answers (Ok (record { entries = 0; choice = Err RefusalNumber.NoneCounted })) lent
         unfolding entry_rows
         replayed-none z =
             let none : entries_in f ≡ [] =
             sym (entries_in_lem f n count) ∙ entries_none f n _ _ (omega (arith, z)) in
             let behind : entry_row_length * n ≡ 0 = omega (arith, z) in
             let all : _ =
-            replayed_entries (Choice.Refused none_counted) lent
+            replayed_entries (Err RefusalNumber.NoneCounted) lent
             (sym (ap (choice_at_end a.table) none))
             (sym (ap (λ (k : ℕ). entry_rows a.table (entries_in f) ++ drop k lent) behind
             ∙ ap (λ (es : List RecordedDatagram). entry_rows a.table es ++ lent) none)) in
-            (ap (λ (k : ℕ). Replayed.Entries k (Choice.Refused none_counted)) (sym z) ∙ all.0, all.1)
+            rw (sym z) all

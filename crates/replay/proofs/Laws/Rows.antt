@@ -1,13 +1,11 @@
 -- Laws of an entry's row.
-use Prim.Native.Nat.{ℕ, suc, ◌+◌, ◌≤◌, ◌<◌}
+use Prim.Native.Nat.{ℕ, ◌+◌, ◌≤◌}
 use mathlib.Core.Path.{◌≡◌, refl, sym, ap, ◌∙◌}
 use mathlib.Core.Bool.{Bool, true, false, cond}
 use mathlib.Core.List.{List, [], ◌∷◌}
 use lib.Dec.{eqb}
-use lib.ListN.{length, set, length-set}
-use lib.Seq.{sets}
 use native.Mathlib.Omega.{arith}
-use borrow.Author.Tests.{eqb-true, ne_eqb}
+use borrow.Author.Tests.{eqb-true}
 use Rattle.replay.specs.declared.steps.Row.{Row}
 use Rattle.replay.specs.Replay.{accepted_in, first_refusal}
 use Rattle.replay.specs.Steps.{first_of_two, row_after, cells_of, row_with_more}
@@ -37,25 +35,6 @@ accepted_more : (t : Bool) (n m : ℕ) → n + cond t (1 + m) m ≡ cond t (n + 
 accepted_more true n m = omega arith
 accepted_more false n m = omega arith
 
--- ---- row_after, one law a return
-
-module _ (row : Row) (number : ℕ) where
-  pub row_accepted :
-      number ≡ 0
-      → record { items = row.items; accepted = row.accepted + 1; number = row.number } ≡ row_after row number
-  unfolding row_after
-  row_accepted e = rw (e, first_of_two-none row.number) refl
-
-  pub row_refused :
-      (number ≡ 0 → ⊥) → row.number ≡ 0
-      → record { items = row.items; accepted = row.accepted; number = number } ≡ row_after row number
-  unfolding row_after
-  row_refused h e = rw (ne_eqb number 0 h, e) refl
-
-  pub row_kept : (number ≡ 0 → ⊥) → (row.number ≡ 0 → ⊥) → row ≡ row_after row number
-  unfolding row_after
-  row_kept h k = rw (ne_eqb number 0 h, ne_eqb row.number 0 k) refl
-
 -- ---- the row that a row so far becomes
 
 -- with one call more behind it, or with the call's number in it
@@ -84,20 +63,3 @@ accepted-after row number = go (eqb number 0) refl
     go : (b : Bool) → eqb number 0 ≡ b → (row_after row number).accepted ≤ row.accepted + 1
     go true e = rw e (omega arith)
     go false e = rw e (omega arith)
-
--- ---- its cells, stored one behind the other
-
-pub second_inside : (l : List ℕ) (at a : ℕ) → at + 3 ≤ length l → at + 1 < length (set l at a)
-second_inside l at a room = omega (arith, room, length-set l at a)
-
-pub third_inside : (l : List ℕ) (at a b : ℕ) → at + 3 ≤ length l → at + 2 < length (set (set l at a) (at + 1) b)
-third_inside l at a b room = omega (arith, room, length-set l at a, length-set (set l at a) (at + 1) b)
-
-pub stored_cells :
-    (l : List ℕ) (at a b c : ℕ)
-    → set (set (set l at a) (at + 1) b) (at + 2) c ≡ sets l at (a ∷ b ∷ c ∷ [])
-stored_cells l at a b c =
-    let one : at + 1 ≡ suc at = omega arith in
-    let two : at + 2 ≡ suc (suc at) = omega arith in
-    ap (λ (k : ℕ). set (set (set l at a) k b) (at + 2) c) one
-    ∙ ap (λ (k : ℕ). set (set (set l at a) (suc at) b) k c) two

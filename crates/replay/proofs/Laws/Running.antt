@@ -1,6 +1,8 @@
 -- What the loop over entries keeps of its own variables: where it stands in the layout, the table's source numbers, and
 -- what is left to run (`EntriesLeft`).
 use Prim.Native.Nat.{ℕ, ◌+◌, ◌-◌, ◌*◌, ◌%◌, ◌≤◌, ◌<◌}
+use Rattle.std.specs.Prelude.{Option, Some, None, Result}
+use Rattle.idms.specs.declared.Refusal.{Refusal}
 use mathlib.Core.Path.{◌≡◌, refl, sym, ap, subst, ◌∙◌}
 use mathlib.Core.Bool.{Bool, true, false}
 use mathlib.Core.List.{List, [], ◌∷◌, ◌++◌}
@@ -13,10 +15,8 @@ use Rattle.idms.specs.declared.Item.{Item}
 use Rattle.idms.specs.declared.Placed.{Placed}
 use Rattle.idms.specs.declared.Report.{Report}
 use Rattle.idms.specs.declared.Settings.{Settings}
-use Rattle.datagram.specs.declared.Count.{Count}
 use Rattle.datagram.specs.Answers.{item_count}
 use Rattle.rtcp.specs.declared.cursor.Cursor.{Cursor}
-use Rattle.rtcp.specs.declared.cursor.Step.{Step}
 use Rattle.rtcp.specs.Cursor.{start, given}
 use Rattle.register.specs.declared.Record.{Record}
 use Rattle.register.specs.declared.Member.{Member}
@@ -31,7 +31,7 @@ use Rattle.table.specs.Choose.{choice_of}
 use Rattle.table.specs.Filing.{report_number_at, report_filing, farewell_number_at, farewell_filing}
 use Rattle.table.specs.Filing.{filing_of, with_filing}
 use Rattle.table.specs.Intake.{record_of}
-use Rattle.table.proofs.Laws.Filing.{filing_answers, filing_searched, filing_number, farewell_stored}
+use Rattle.table.proofs.Laws.Filing.{filing_answers, filing_searched, farewell_filing_number, farewell_stored}
 use Rattle.table.proofs.Laws.Search.{place_among_lem, sources_set, sources_long, sources_after_farewell}
 use Rattle.intake.specs.Datagrams.{calls_in}
 use Rattle.replay.specs.declared.layout.Listed.{Listed}
@@ -60,7 +60,7 @@ behind f n i end = entries_from f (n - (i + 1)) (entry_place (i + 1)) end
 
 -- its items have been counted, and none is taken
 pub record Begun (f : List ℕ) (entry : Listed) (left : ℕ) (cursor : Cursor) (row : Row) : Type 0 where
-  pub count : Count
+  pub count : Result ℕ Refusal
   pub counts : count ≡ item_count false (datagram_of f entry)
   pub left_is : left ≡ items_in count
   pub cursor_is : cursor ≡ start
@@ -176,8 +176,9 @@ module _
   -- ---- an item is taken
 
   module _
-      (x : Placed) (next : Cursor) (s : Step) (gives : s ≡ next_in (datagram_of f entry) left cursor)
-      (has : s ≡ Step.Item x next) where
+      (x : Placed) (next : Cursor) (s : Option (Placed × Cursor))
+      (gives : s ≡ next_in (datagram_of f entry) left cursor)
+      (has : s ≡ Some (x, next)) where
     pub some_left : 0 < left
     some_left = (item-left (datagram_of f entry) left cursor x next (sym gives ∙ has)).0
 
@@ -224,13 +225,11 @@ module _
 
         pub running_report :
             (report : Report) (row₁ : Row) → x.item ≡ Item.Report report → r ≡ record_of report entry.origin
-            → row₁ ≡ row_after row number
+            → row₁ ≡ row_after row filing.number
             → Running f n t₀ rows₀ (with_filing t filing)
             (set sources filing.place filing.member.«record».source) rows i entry (left - 1) next
             row₁
         running_report report row₁ is e w =
-            let same : filing.number ≡ number =
-            ap (λ (h : Filing). h.number) filed ∙ filing_number t.held found there r number in
             running_call (Call.report r entry.at) (record { number = filing.number; table = with_filing t filing }) _
             row₁
             (report-left entry.origin entry.at (datagram_of f entry) left cursor x next items report is
@@ -240,7 +239,7 @@ module _
             (ap (λ (those : List ℕ). set those filing.place filing.member.«record».source) l.sources_are
             ∙ sym (sources_set t.members filing.place filing.member))
             (length-set sources filing.place filing.member.«record».source ∙ l.many)
-            (w ∙ ap (row_after row) (sym same))
+            w
 
       module _
           (source : ℕ) (place : found ≡ place_among source t.held sources)
@@ -258,16 +257,18 @@ module _
         farewell_within = stored.1
 
         pub running_farewell :
-            (row₁ : Row) → x.item ≡ Item.Farewell source → row₁ ≡ row_after row number
+            (row₁ : Row) → x.item ≡ Item.Farewell source → row₁ ≡ row_after row filing.number
             → Running f n t₀ rows₀ (with_filing t filing) sources rows i entry (left - 1) next row₁
         running_farewell row₁ is w =
+            let same : filing.number ≡ number =
+            ap (λ (h : Filing). h.number) filed ∙ farewell_filing_number t.held found there number in
             running_call (Call.farewell source entry.origin) called sources row₁
             (farewell-left entry.origin entry.at (datagram_of f entry) left cursor x next items source is)
             stored.0
             (l.sources_are
             ∙ sym (sources_after_farewell t source entry.origin)
             ∙ ap (λ (a : Answered). sources_of a.table.members) (sym stored.0))
-            l.many w
+            l.many (w ∙ ap (row_after row) same)
 
     pub running_settings :
         (settings : Settings) → x.item ≡ Item.Settings settings
@@ -287,7 +288,8 @@ module _
   -- ---- the entry is over, and its row is put
 
   module _
-      (rows₁ : List ℕ) (s : Step) (gives : s ≡ next_in (datagram_of f entry) left cursor) (over : s ≡ Step.End)
+      (rows₁ : List ℕ) (s : Option (Placed × Cursor))
+      (gives : s ≡ next_in (datagram_of f entry) left cursor) (over : s ≡ None)
       (put : rows₁ ≡ sets rows (entry_row_length * i) (cells_of row)) where
     none : left_calls f entry left cursor ≡ []
     unfolding calls_in

@@ -1,9 +1,7 @@
 -- A refusal changes nothing, and else every entry is run: one law for each return.
 use mathlib.Core.Path.{sym, ap, ◌∙◌}
-use native.Mathlib.Omega.{arith}
 use Rattle.table.specs.declared.Answered.{Answered}
 use Rattle.table.specs.Members.{sources_of}
-use Rattle.replay.proofs.Laws.Layout.{good_layout}
 use Rattle.replay.proofs.Laws.Left.{positive}
 use Rattle.replay.proofs.Laws.Replayed.{opened_sources, replayed_layout, replayed-opening, replayed-short}
 use Rattle.replay.proofs.Laws.Replayed.{replayed-none, replayed_entries, opening-read}
@@ -14,22 +12,6 @@ returns-then-is_bad_layout c =
     let all : _ =
     replayed_layout c.args.f.now c.args.rows.now (sym c.is_bad_layout.ensures ∙ c.if-is_bad_layout.true) in
     record { value = all.0; rows_after = all.1 }
-
-pub read32-n-requires : goal.read32-n-requires
-read32-n-requires c =
-    omega (arith, (good_layout _ (sym c.is_bad_layout.ensures ∙ c.if-is_bad_layout.false)).head)
-
-pub read32-requires : goal.read32-requires
-read32-requires c =
-    omega (arith, (good_layout _ (sym c.is_bad_layout.ensures ∙ c.if-is_bad_layout.false)).head)
-
-pub read32-requires-2 : goal.read32-requires-2
-read32-requires-2 c =
-    omega (arith, (good_layout _ (sym c.is_bad_layout.ensures ∙ c.if-is_bad_layout.false)).head)
-
-pub read32-requires-3 : goal.read32-requires-3
-read32-requires-3 c =
-    omega (arith, (good_layout _ (sym c.is_bad_layout.ensures ∙ c.if-is_bad_layout.false)).head)
 
 pub returns-then-opened-ne0 : goal.returns-then-opened-ne0
 returns-then-opened-ne0 c =

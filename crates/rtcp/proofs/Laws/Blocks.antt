@@ -1,14 +1,15 @@
 -- The blocks of an XR packet that have passed, one by one, by what is found at each.
 use Prim.Native.Nat.{ℕ, ◌+◌, ◌≤◌, ◌<◌}
+use Rattle.std.specs.Prelude.{Some, Ok, Err}
 use mathlib.Core.Path.{◌≡◌, ap, ◌∙◌}
 use mathlib.Core.List.{List, ◌∷◌, ◌++◌}
 use lib.ListN.{length}
 use native.Mathlib.Omega.{arith}
+use Rattle.refusals.specs.declared.RefusalNumber.{RefusalNumber}
 use Rattle.idms.specs.declared.Item.{Item}
 use Rattle.idms.specs.declared.Placed.{Placed}
 use Rattle.idms.specs.declared.Report.{Report}
 use Rattle.packet_checks.specs.declared.block.Block.{Block}
-use Rattle.packet.specs.declared.block.BlockReport.{BlockReport}
 use Rattle.packet.specs.Checks.{passed}
 use Rattle.packet.specs.Report.{block_size, report_at}
 use Rattle.packet.specs.Answers.{block_is, report_is}
@@ -26,7 +27,7 @@ pub record BlockTurn (d : List ℕ) (sender stop at bytes : ℕ) (items : List P
 
 module _ (d : List ℕ) (sender stop at : ℕ) (here : at < stop) (check : blocks_check d stop at ≡ passed) where
   pub report_turn :
-      block_is d stop at ≡ Block.Report
+      block_is d stop at ≡ Ok Block.Report
       → BlockTurn d sender stop at 32
       (λ (l : List Placed). record { place = at; item = Item.Report (report_at d sender at) } ∷ l)
   report_turn e =
@@ -45,7 +46,7 @@ module _ (d : List ℕ) (sender stop at : ℕ) (here : at < stop) (check : block
       }
 
   pub skipped_turn :
-      (bytes : ℕ) → block_is d stop at ≡ Block.Skipped bytes
+      (bytes : ℕ) → block_is d stop at ≡ Ok (Block.Skipped bytes)
       → BlockTurn d sender stop at bytes (λ (l : List Placed). l)
   skipped_turn bytes e =
       let g : _ = met_skipped d stop at bytes e in
@@ -62,30 +63,22 @@ module _ (d : List ℕ) (sender stop at : ℕ) (here : at < stop) (check : block
             ∙ ap (λ (k : ℕ). blocks_items d sender stop k) size;
       }
 
-  pub not-refused : (number : ℕ) → block_is d stop at ≡ Block.Refused number → ⊥
+  pub not-refused : (number : RefusalNumber) → block_is d stop at ≡ Err number → ⊥
   not-refused number e =
       let k : _ = (blocks_turn d sender stop at here check).check in
       let r : _ = met_refused d stop at number e in
-      let z : ◌≡◌ {A = ℕ} 0 1 = cc in
-      omega arith
+      cc
 
 -- the fields of a report whose block has passed
 pub fields_there :
-    (d : List ℕ) (sender stop at : ℕ) → block_is d stop at ≡ Block.Report
-    → report_is d sender at ≡ BlockReport.Fields (report_at d sender at)
+    (d : List ℕ) (sender stop at : ℕ) → block_is d stop at ≡ Ok Block.Report
+    → report_is d sender at ≡ Some (report_at d sender at)
 fields_there d sender stop at e =
     let g : _ = met_report d stop at e in
     report_inside d sender at (omega (arith, g.0.inside, g.0.within))
 
 -- and as a call has given them
 pub fields_read :
-    (d : List ℕ) (sender stop at : ℕ) (r : Report) → block_is d stop at ≡ Block.Report
-    → report_is d sender at ≡ BlockReport.Fields r → r ≡ report_at d sender at
+    (d : List ℕ) (sender stop at : ℕ) (r : Report) → block_is d stop at ≡ Ok Block.Report
+    → report_is d sender at ≡ Some r → r ≡ report_at d sender at
 fields_read d sender stop at r e f = let g : _ = fields_there d sender stop at e in cc
-
-pub fields_not_outside :
-    (d : List ℕ) (sender stop at : ℕ) → block_is d stop at ≡ Block.Report → report_is d sender at ≡ BlockReport.Outside → ⊥
-fields_not_outside d sender stop at e f =
-    let g : _ = fields_there d sender stop at e in
-    let z : ◌≡◌ {A = ℕ} 0 1 = cc in
-    omega arith

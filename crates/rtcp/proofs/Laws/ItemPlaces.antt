@@ -1,6 +1,7 @@
 -- The places that the items of a datagram are read from: every report is read from a block of type 12, role 1 and 8
 -- words, every settings item from a packet of type 211, both whole in the datagram.
 use Prim.Native.Nat.{ℕ, suc, zero, ◌+◌, ◌-◌, ◌≤◌, ◌<◌}
+use Rattle.std.specs.Prelude.{Ok}
 use mathlib.Core.Path.{◌≡◌, refl, sym, ap, ◌∙◌}
 use mathlib.Core.List.{List, [], ◌∷◌, ◌++◌}
 use mathlib.Core.Bool.{Bool, true, false}
@@ -10,7 +11,6 @@ use native.Mathlib.Omega.{arith}
 use borrow.Author.Tests.{ltb-true, ltb-false}
 use Rattle.idms.specs.declared.Item.{Item}
 use Rattle.idms.specs.declared.Placed.{Placed}
-use Rattle.idms.specs.declared.Found.{Found}
 use Rattle.packet.specs.declared.contents.Packet.{Packet}
 use Rattle.packet.specs.Checks.{Check, passed, refused}
 use Rattle.packet.specs.Packet.{version, packet_type, size, content}
@@ -122,18 +122,16 @@ items_read d e = packets_read d (length d) 0 (omega arith) (check_passes (length
 -- ---- the item at an index
 
 pub item-read :
-    (reduced : Bool) (d : List ℕ) (index : ℕ) (x : Placed) → item_of reduced d index ≡ Found.Item x → ReadFrom d x
+    (reduced : Bool) (d : List ℕ) (index : ℕ) (x : Placed) → item_of reduced d index ≡ Ok x → ReadFrom d x
 item-read reduced d index x e = go (datagram_check reduced d) refl (ltb index (length (datagram_items d))) refl
   where
     go : (k : Check) → datagram_check reduced d ≡ k → (t : Bool) → ltb index (length (datagram_items d)) ≡ t → ReadFrom d x
     go (refused number place) k t b =
         let other : _ = item_refused reduced d index number place k in
-        let z : ◌≡◌ {A = ℕ} 0 1 = cc in
-        absurd (omega arith)
+        cc
     go passed k false b =
         let other : _ = item-past reduced d index k (ltb-false index (length (datagram_items d)) b) in
-        let z : ◌≡◌ {A = ℕ} 0 1 = cc in
-        absurd (omega arith)
+        cc
     go passed k true b =
         let here : index < length (datagram_items d) = ltb-true index (length (datagram_items d)) b in
         let there : _ = item-there reduced d index k here in

@@ -1,5 +1,7 @@
 -- Laws of rows: what an array holds once rows have been put into it one behind the other.
 use Prim.Native.Nat.{ℕ, ◌+◌, ◌*◌, ◌≤◌, ◌<◌}
+use Rattle.std.specs.Prelude.{Ok, Err}
+use Rattle.refusals.specs.declared.RefusalNumber.{RefusalNumber}
 use mathlib.Core.Path.{◌≡◌, refl, sym, ap, ◌∙◌}
 use mathlib.Core.List.{List, [], ◌∷◌, ◌++◌}
 use mathlib.Core.Bool.{Bool, true, false}
@@ -12,13 +14,11 @@ use Rattle.idms.specs.Rows.{cells, row_of}
 use Rattle.idms.specs.declared.Item.{Item}
 use Rattle.idms.specs.declared.Placed.{Placed}
 use Rattle.idms.specs.declared.Refusal.{Refusal}
-use Rattle.refusals.specs.Refusals.{short_buffer}
 use Rattle.packet.specs.declared.contents.Packet.{Packet}
 use Rattle.packet.specs.Packet.{size}
 use Rattle.packet.specs.Contents.{contents}
 use Rattle.packet.proofs.Laws.Packet.{Readable}
 use Rattle.packet.proofs.Laws.Contents.{Holds, unread, sources, blocks, setting, holds}
-use Rattle.datagram.specs.declared.Count.{Count}
 use Rattle.datagram.specs.Datagram.{packets_items, datagram_items}
 use Rattle.datagram.specs.Answers.{refusal, item_count}
 use Rattle.datagram.proofs.Laws.Datagram.{packets_end}
@@ -109,15 +109,15 @@ none_left d rows₀ rows cell p n f e h = nothing_left (packets_items d p) (omeg
 
 module _ (reduced : Bool) (d rows : List ℕ) where
   pub rows-refused :
-      (r : Refusal) → item_count reduced d ≡ Count.Refused r
-      → (Count.Refused r ≡ rows_answer reduced d rows) × (rows ≡ rows_after reduced d rows)
+      (r : Refusal) → item_count reduced d ≡ Err r
+      → (Err r ≡ rows_answer reduced d rows) × (rows ≡ rows_after reduced d rows)
   unfolding rows_answer rows_after
   rows-refused r e = rw (datagram-refused reduced d r e) (refl, refl)
 
-  module _ (n : ℕ) (e : item_count reduced d ≡ Count.Items n) where
+  module _ (n : ℕ) (e : item_count reduced d ≡ Ok n) where
     pub rows_short :
         length rows < 10 * n
-        → (Count.Refused (refusal short_buffer 0) ≡ rows_answer reduced d rows) × (rows ≡ rows_after reduced d rows)
+        → (Err (refusal RefusalNumber.ShortBuffer 0) ≡ rows_answer reduced d rows) × (rows ≡ rows_after reduced d rows)
     unfolding rows_answer rows_after
     rows_short h =
         let m : _ = datagram-passed reduced d n e in
@@ -125,12 +125,12 @@ module _ (reduced : Bool) (d rows : List ℕ) where
 
     pub rows-filled :
         10 * n ≤ length rows
-        → (Count.Items n ≡ rows_answer reduced d rows) × (put rows 0 (datagram_items d) ≡ rows_after reduced d rows)
+        → (Ok n ≡ rows_answer reduced d rows) × (put rows 0 (datagram_items d) ≡ rows_after reduced d rows)
     unfolding rows_answer rows_after
     rows-filled h =
         let m : _ = datagram-passed reduced d n e in
         rw (m.0, le-ltb (length rows) (10 * length (datagram_items d)) (omega (arith, m.1)))
-        (ap Count.Items m.1, puts_front row_of 10 length-row_of (datagram_items d) rows (omega (arith, m.1)))
+        (ap Ok m.1, puts_front row_of 10 length-row_of (datagram_items d) rows (omega (arith, m.1)))
 
 -- ---- behind
 

@@ -1,17 +1,19 @@
 -- Digits and the numbers that they spell, each by induction on the digits, for any count of them.
-use Prim.Native.Nat.{ℕ, zero, suc, ◌+◌, ◌-◌, ◌*◌, ◌/◌, ◌%◌, ◌^◌, ◌≤◌, ◌<◌}
-use mathlib.Core.Bool.{Bool, true, false, cond, and-eq-true_iff}
+use Prim.Native.Nat.{ℕ, zero, suc, ◌+◌, ◌-◌, ◌*◌, ◌/◌, ◌%◌, ◌^◌, ◌≤◌, ◌<◌, min}
+use mathlib.Core.Bool.{Bool, true, false, cond, ◌&&◌, and-eq-true_iff}
 use mathlib.Core.List.{List, [], ◌∷◌, ◌++◌, append-nil, append_assoc}
 use mathlib.Core.Path.{◌≡◌, refl, sym, ap, ◌∙◌}
 use lib.Dec.{leb, eqb}
-use lib.ListN.{length, get_or, set, take, drop, drop_of_length-le, length-append, replicate, replicate-append-replicate}
+use Rattle.std.specs.Char.{is_ascii_digit}
+use Rattle.std.specs.List.{list_all, prefix_len}
+use lib.ListN.{length, get_or, set, take, drop, length-append, replicate, replicate-append-replicate}
 use lib.Pow.{pow-add}
-use lib.Seq.{drop-cons, set_split, drop_at, length-take-le, append_snoc, slice, slice-cons, slice_empty, length-slice}
-use native.Mathlib.Nat.{pow-suc, pow-succ', pow-le-pow_right}
+use lib.Seq.{take-suc, set_split, drop_at, length-take-le, append_snoc}
+use native.Mathlib.Nat.{pow-suc, pow-le-pow_right}
 use native.Mathlib.Nat.{add-mul, mul_assoc, mul-le-mul_right, add-zero, add-suc, zero-mul}
 use native.Mathlib.Numerals.{add-one}
 use native.Mathlib.Omega.{arith}
-use borrow.Author.Tests.{leb-true, le-leb, lt-leb, eqb-true, eq-eqb, ne_eqb}
+use borrow.Author.Tests.{leb-true, le-leb, eqb-true}
 use Rattle.sdp.specs.Digits.{is_digit, are_digits, zero_digit, value_of, digits_of}
 use Rattle.sdp.specs.Digits.{has_leading_zero, without_leading_zeros}
 
@@ -42,28 +44,24 @@ digits_append (x ∷ a) b e h =
     let first : _ = digits_split x a e in
     digits_joined x (a ++ b) first.0 (digits_append a b first.1 h)
 
--- digits from one place up to another, one more, and the end
-module _ (d : List ℕ) (i to : ℕ) where
-  module _ (h : i < to) (k : to ≤ length d) where
-    pub not_digits : is_digit (get_or d i 0) ≡ false → are_digits (slice i to d) ≡ false
-    unfolding are_digits
-    not_digits e = rw (slice-cons i to d 0 h k, e) refl
+-- are_digits as the library goes over a slice
+pub all_digits : (l : List ℕ) → list_all is_ascii_digit l ≡ are_digits l
+unfolding is_digit are_digits
+all_digits [] = refl
+all_digits (b ∷ l) = ap (λ (r : Bool). is_ascii_digit b && r) (all_digits l)
 
-    pub digit_passed : is_digit (get_or d i 0) ≡ true → are_digits (slice i to d) ≡ are_digits (slice (i + 1) to d)
-    unfolding are_digits
-    digit_passed e = rw (slice-cons i to d 0 h k, e, add-one i) refl
+-- the first digits, and one of them
+pub digits_front : (l : List ℕ) (i : ℕ) → are_digits l ≡ true → are_digits (take i l) ≡ true
+unfolding are_digits
+digits_front l zero e = refl
+digits_front [] (suc i) e = refl
+digits_front (b ∷ l) (suc i) e =
+    let both : _ = digits_split b l e in digits_joined b (take i l) both.0 (digits_front l i both.1)
 
-  pub digits_end : i ≡ to → are_digits (slice i to d) ≡ true
-  unfolding are_digits
-  digits_end e = rw (e, slice_empty to d) refl
-
-pub below_digits : (b : ℕ) → b < 48 → is_digit b ≡ false
-unfolding is_digit
-below_digits b h = rw (lt-leb 48 b h) refl
-
-pub digit_above : (b : ℕ) → 48 ≤ b → is_digit b ≡ leb b 57
-unfolding is_digit
-digit_above b h = rw (le-leb 48 b h) refl
+pub digit_at : (l : List ℕ) (i : ℕ) → are_digits l ≡ true → i < length l → (48 ≤ get_or l i 0) × (get_or l i 0 ≤ 57)
+digit_at [] i e h = absurd (omega arith)
+digit_at (b ∷ l) zero e h = digit_bounds b (digits_split b l e).0
+digit_at (b ∷ l) (suc i) e h = digit_at l i (digits_split b l e).1 (omega arith)
 
 -- ---- value_of
 
@@ -91,53 +89,19 @@ value_bound (b ∷ l) e =
     let first : (b - 48) * 10 ^ length l ≤ 9 * 10 ^ length l = mul-le-mul_right (10 ^ length l) (omega arith) in
     omega (arith, rest, first, pow-suc 10 (length l))
 
--- the number of digits from one place up to another: one more, the first of them, and the end
-module _ (d : List ℕ) (i to : ℕ) where
-  module _ (h : i < to) (k : to ≤ length d) where
-    pub value_step :
-        (n : ℕ)
-        → n * 10 ^ (to - i) + value_of (slice i to d)
-        ≡ (n * 10 + (get_or d i 0 - 48)) * 10 ^ (to - (i + 1)) + value_of (slice (i + 1) to d)
-    unfolding value_of
-    value_step n =
-        let p = 10 ^ (to - (i + 1)) in
-        let v = get_or d i 0 - 48 in
-        let left : to - i ≡ suc (to - (i + 1)) = omega arith in
-        let power : 10 ^ (to - i) ≡ 10 * p = ap (λ (x : ℕ). 10 ^ x) left ∙ pow-succ' 10 (to - (i + 1)) in
-        let rest : length (slice (i + 1) to d) ≡ to - (i + 1) = length-slice (i + 1) to d k in
-        let cut : slice i to d ≡ get_or d i 0 ∷ slice (i + 1) to d =
-        slice-cons i to d 0 h k ∙ ap (λ (x : ℕ). get_or d i 0 ∷ slice x to d) (sym (add-one i)) in
-        let first : value_of (slice i to d) ≡ v * p + value_of (slice (i + 1) to d) =
-        ap value_of cut ∙ ap (λ (x : ℕ). v * 10 ^ x + value_of (slice (i + 1) to d)) rest in
-        let front : n * 10 ^ (to - i) ≡ n * (10 * p) = ap (λ (x : ℕ). n * x) power in
-        omega (arith, front, first, shifted n v 10 p)
-
-    digit_first : are_digits (slice i to d) ≡ true → is_digit (get_or d i 0) ≡ true
-    digit_first e = (digits_split (get_or d i 0) (slice (suc i) to d) (rw (slice-cons i to d 0 h k) at e)).0
-
-    pub digit_at : are_digits (slice i to d) ≡ true → (48 ≤ get_or d i 0) × (get_or d i 0 ≤ 57)
-    digit_at e = digit_bounds (get_or d i 0) (digit_first e)
-
-    pub digits_rest : are_digits (slice i to d) ≡ true → are_digits (slice (i + 1) to d) ≡ true
-    digits_rest e = sym (digit_passed d i to h k (digit_first e)) ∙ e
-
-  pub value_end : (n : ℕ) → i ≡ to → n * 10 ^ (to - i) + value_of (slice i to d) ≡ n
+-- the number that the first digits spell: with one more, and its bound
+module _ (l : List ℕ) (i : ℕ) (h : i < length l) where
+  pub value_more : value_of (take (i + 1) l) ≡ value_of (take i l) * 10 + (get_or l i 0 - 48)
   unfolding value_of
-  value_end n e =
-      let left : to - i ≡ 0 = omega (arith, e) in
-      let empty : slice i to d ≡ [] = rw e (slice_empty to d) in
-      rw (left, empty) (omega arith)
+  value_more =
+      rw (add-one i, take-suc l i 0 h) (value_append (take i l) (get_or l i 0 ∷ []) ∙ omega arith)
 
--- a digit more is a place more
-pub grown : (n v count : ℕ) → n < 10 ^ count → v ≤ 9 → n * 10 + v < 10 ^ (count + 1)
-grown n v count h k =
-    let power : 10 ^ (count + 1) ≡ 10 ^ count * 10 = ap (λ (x : ℕ). 10 ^ x) (add-one count) ∙ pow-suc 10 count in
-    omega (arith, power)
-
-pub nine_digits : (n count : ℕ) → n < 10 ^ count → count ≤ 9 → n < 10 ^ 9
-nine_digits n count h k =
-    let most : 10 ^ count ≤ 10 ^ 9 = pow-le-pow_right (omega arith) k in
-    omega (arith, h, most)
+  pub nine_digits : are_digits l ≡ true → length l ≤ 10 → value_of (take i l) < 10 ^ 9
+  nine_digits e few =
+      let nine : i ≤ 9 = omega arith in
+      let most : 10 ^ i ≤ 10 ^ 9 = pow-le-pow_right (omega arith) nine in
+      let low : _ = value_bound (take i l) (digits_front l i e) in
+      omega (arith, rw (length-take-le i l (omega arith)) at low, most)
 
 -- ---- digits_of
 
@@ -228,30 +192,29 @@ digit_put (suc i) rest l h k =
 
 -- ---- without_leading_zeros and has_leading_zero
 
--- digits from a place on: a zero with another behind it, another digit, and the last
-module _ (l : List ℕ) (i : ℕ) (h : i + 1 < length l) where
-  two_left : drop i l ≡ get_or l i 0 ∷ get_or l (i + 1) 0 ∷ drop (suc (i + 1)) l
-  two_left =
-      drop-cons l i 0 (omega arith)
-      ∙ ap (λ (k : ℕ). get_or l i 0 ∷ drop k l) (sym (add-one i))
-      ∙ ap (λ (r : List ℕ). get_or l i 0 ∷ r) (drop-cons l (i + 1) 0 h)
+-- as many zeros as there are in front, and the last digit kept
+abbrev pub zeros_in_front : List ℕ → ℕ
+zeros_in_front l = prefix_len (λ (b : ℕ). eqb b zero_digit) l
 
-  pub zero-passed :
-      get_or l i 0 ≡ 48 → without_leading_zeros (drop i l) ≡ without_leading_zeros (drop (i + 1) l)
-  unfolding without_leading_zeros
-  zero-passed e = rw (two_left, eq-eqb (get_or l i 0) 48 e, drop-cons l (i + 1) 0 h) refl
-
-  pub zeros-passed : (get_or l i 0 ≡ 48 → ⊥) → without_leading_zeros (drop i l) ≡ drop i l
-  unfolding without_leading_zeros
-  zeros-passed e = rw (two_left, ne_eqb (get_or l i 0) 48 e) refl
-
-pub last_kept : (l : List ℕ) (i : ℕ) → length l ≡ i + 1 → without_leading_zeros (drop i l) ≡ drop i l
+pub zeros_left : (l : List ℕ) → drop (min (zeros_in_front l) (length l - 1)) l ≡ without_leading_zeros l
 unfolding without_leading_zeros
-last_kept l i h =
-    let end : length l ≤ suc i = omega arith in
-    let one : drop i l ≡ get_or l i 0 ∷ [] =
-    drop-cons l i 0 (omega arith) ∙ ap (λ (r : List ℕ). get_or l i 0 ∷ r) (drop_of_length-le l end) in
-    rw one refl
+zeros_left [] = refl
+zeros_left (b ∷ []) = grind arith
+zeros_left (b ∷ c ∷ l) = go (eqb b zero_digit) (zeros_left (c ∷ l))
+  where
+    go :
+        (t : Bool) → drop (min (zeros_in_front (c ∷ l)) (length (c ∷ l) - 1)) (c ∷ l) ≡ without_leading_zeros (c ∷ l)
+        → drop (min (cond t (1 + zeros_in_front (c ∷ l)) 0) (length (b ∷ c ∷ l) - 1)) (b ∷ c ∷ l)
+        ≡ cond t (without_leading_zeros (c ∷ l)) (b ∷ c ∷ l)
+    go true e =
+        let more :
+        min (1 + zeros_in_front (c ∷ l)) (length (b ∷ c ∷ l) - 1)
+        ≡ suc (min (zeros_in_front (c ∷ l)) (length (c ∷ l) - 1)) =
+        omega arith in
+        rw more e
+    go false e =
+        let none : min 0 (length (b ∷ c ∷ l) - 1) ≡ 0 = omega arith in
+        rw none refl
 
 -- the first of two digits is a zero or is not
 by_first :

@@ -1,42 +1,17 @@
 -- Bytes in front of others, and a list between two fixed ends.
-use Prim.Native.Nat.{ℕ, suc, ◌+◌, ◌-◌, ◌≤◌, ◌<◌}
-use mathlib.Core.Bool.{true, false, ◌&&◌, false≢true, and-eq-true_iff}
-use mathlib.Core.List.{List, [], ◌∷◌, ◌++◌}
+use Prim.Native.Nat.{ℕ, ◌+◌, ◌-◌, ◌≤◌}
+use mathlib.Core.Bool.{true, false≢true, and-eq-true_iff}
+use mathlib.Core.List.{List, [], ◌∷◌, ◌++◌, append_assoc}
 use mathlib.Core.Path.{◌≡◌, refl, sym, ap, ◌∙◌}
 use lib.Dec.{eqb}
-use lib.ListN.{length, get_or, take, drop, length-append, length-drop, take-append-drop, drop_of_length-le}
-use lib.Seq.{drop-cons, take-take, take_all, take-length, take-append_seam}
-use lib.Seq.{drop-append_seam, drop-append-add, drop-drop}
-use lib.Seq.{slice, paste}
-use native.Mathlib.Numerals.{add-one}
-use native.Mathlib.Nat.{add-suc}
+use borrow.Rule.Slice.PartMut.{put_mid}
+use lib.ListN.{length, take, drop, length-append, length-drop, take-append-drop}
+use lib.Seq.{take-take, take_all, take-append_seam}
+use lib.Seq.{drop-append_seam, drop-drop}
+use lib.Seq.{slice}
 use native.Mathlib.Omega.{arith}
-use borrow.Author.Tests.{eqb-true, eq-eqb, ne_eqb}
+use borrow.Author.Tests.{eqb-true, eq-eqb}
 use Rattle.sdp.specs.Answers.{starts_with}
-
--- ---- starts_with, one byte more, and the end
-
-module _ (bytes d : List ℕ) (at i : ℕ) where
-  module _ (h : i < length bytes) (k : at + length bytes ≤ length d) where
-    starts_step :
-        starts_with (drop i bytes) (drop (at + i) d)
-        ≡ (eqb (get_or d (at + i) 0) (get_or bytes i 0) && starts_with (drop (suc i) bytes) (drop (suc (at + i)) d))
-    unfolding starts_with
-    starts_step = rw (drop-cons bytes i 0 h, drop-cons d (at + i) 0 (omega arith)) refl
-
-    pub starts_unlike :
-        (get_or d (at + i) 0 ≡ get_or bytes i 0 → ⊥) → starts_with (drop i bytes) (drop (at + i) d) ≡ false
-    starts_unlike e = rw (starts_step, ne_eqb (get_or d (at + i) 0) (get_or bytes i 0) e) refl
-
-    pub starts_alike :
-        get_or d (at + i) 0 ≡ get_or bytes i 0
-        → starts_with (drop i bytes) (drop (at + i) d) ≡ starts_with (drop (i + 1) bytes) (drop (at + (i + 1)) d)
-    starts_alike e =
-        rw (starts_step, eq-eqb (get_or d (at + i) 0) (get_or bytes i 0) e, add-one i, add-suc at i) refl
-
-  pub starts_end : length bytes ≤ i → starts_with (drop i bytes) (drop (at + i) d) ≡ true
-  unfolding starts_with
-  starts_end h = rw (drop_of_length-le bytes h) refl
 
 -- ---- starts_with as equality
 
@@ -88,28 +63,22 @@ module _ (front end : List ℕ) where
 
 -- ---- three parts put one behind the other
 
-pub paste_behind :
-    (done l rest : List ℕ) (at : ℕ) → length done ≡ at
-    → paste (done ++ rest) at l (length l) ≡ done ++ l ++ drop (length l) rest
-paste_behind done l rest at e =
-    let parts : take (length done) (done ++ rest) ++ take (length l) l ++ drop (length done + length l) (done ++ rest)
-    ≡ done ++ l ++ drop (length l) rest =
-    rw (take-append_seam done rest, take-length l, drop-append-add done rest (length l)) refl in
-    ap (λ (k : ℕ). paste (done ++ rest) k l (length l)) (sym e) ∙ parts
+put_behind :
+    (done l rest : List ℕ) (at k : ℕ) → at ≡ length done → put_mid at k (done ++ rest) l ≡ done ++ l ++ drop k rest
+put_behind done l rest at k e =
+    rw (e, take-append_seam done rest, drop-append_seam done rest) (sym (append_assoc done l (drop k rest)))
 
-pub three_pastes :
-    (p l e buf : List ℕ)
-    → paste (paste (paste buf 0 p (length p)) (length p) l (length l)) (length p + length l) e (length e)
+pub three_parts :
+    (p l e buf : List ℕ) (at k m : ℕ) → at ≡ length p + length l → k ≡ length l → m ≡ length e
+    → put_mid at m (put_mid (length p) k (p ++ drop (length p) buf) l) e
     ≡ p ++ l ++ e ++ drop (length (p ++ l ++ e)) buf
-three_pastes p l e buf =
-    let rest = drop (length p) buf in
-    let count : length p + length l + length e ≡ length (p ++ l ++ e) =
-    ap (λ (k : ℕ). k + length e) (sym (length-append p l)) ∙ sym (length-append (p ++ l) e) in
-    ap (λ (b : List ℕ). paste (paste b (length p) l (length l)) (length p + length l) e (length e))
-    (paste_behind [] p buf 0 refl)
-    ∙ ap (λ (b : List ℕ). paste b (length p + length l) e (length e)) (paste_behind p l rest (length p) refl)
-    ∙ paste_behind (p ++ l) e (drop (length l) rest) (length p + length l) (length-append p l)
+three_parts p l e buf at k m h i j =
+    let rest = drop k (drop (length p) buf) in
+    let count : length p + k + m ≡ length (p ++ l ++ e) =
+    omega (arith, i, j, length-append p l, length-append (p ++ l) e) in
+    ap (λ (b : List ℕ). put_mid at m b e) (put_behind p l (drop (length p) buf) (length p) k refl)
+    ∙ put_behind (p ++ l) e rest at m (omega (arith, h, length-append p l))
     ∙ ap (λ (r : List ℕ). p ++ l ++ e ++ r)
-    (ap (drop (length e)) (drop-drop (length l) (length p) buf)
-    ∙ drop-drop (length e) (length p + length l) buf
-    ∙ ap (λ (k : ℕ). drop k buf) count)
+    (ap (drop m) (drop-drop k (length p) buf)
+    ∙ drop-drop m (length p + k) buf
+    ∙ ap (λ (n : ℕ). drop n buf) count)

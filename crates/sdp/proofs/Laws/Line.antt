@@ -1,20 +1,19 @@
 -- Laws of the line's grammar.
 use Prim.Native.Nat.{ℕ, ◌+◌, ◌-◌, ◌≤◌, ◌<◌}
-use mathlib.Core.Bool.{true, false, and-eq-true_iff, ◌&&◌}
+use Rattle.std.specs.Prelude.{Ok, Err}
+use Rattle.refusals.specs.declared.RefusalNumber.{RefusalNumber}
+use mathlib.Core.Bool.{Bool, true, false, false≢true, and-eq-true_iff, ◌&&◌}
 use mathlib.Core.List.{List, [], ◌++◌}
 use mathlib.Core.Path.{◌≡◌, refl, sym, ap, ◌∙◌}
 use lib.Dec.{ltb}
-use lib.ListN.{length, take, drop, length-append, length-drop}
-use lib.Seq.{take_all, slice, length-slice}
+use lib.ListN.{length, drop, length-append}
+use lib.Seq.{length-slice}
 use native.Mathlib.Omega.{arith}
 use borrow.Author.Tests.{ltb-true, lt-ltb, le-ltb}
-use Rattle.refusals.specs.Refusals.{bad_line, bad_group}
-use Rattle.sdp.specs.declared.SyncGroup.{SyncGroup}
-use Rattle.sdp.specs.Digits.{are_digits, value_of, digits_of, without_leading_zeros}
-use Rattle.sdp.specs.Line.{prefix, crlf, sdp_line, group_line, greatest_group, digits_in}
+use Rattle.sdp.specs.Digits.{are_digits, value_of}
+use Rattle.sdp.specs.Line.{prefix, crlf, sdp_line, greatest_group, digits_in}
 use Rattle.sdp.specs.Answers.{starts_with, keeps_grammar, are_too_many, group_in}
 use Rattle.sdp.specs.Grammar.{IsSdpLine}
-use Rattle.sdp.proofs.Laws.Digits.{length_digits}
 use Rattle.sdp.proofs.Laws.Frame.{starts_append, between, ends_append, framed}
 
 -- ---- sdp_line and digits_in
@@ -27,25 +26,6 @@ length_line digits =
 
 pub digits_in_line : (digits : List ℕ) → digits_in (sdp_line digits) ≡ digits
 digits_in_line digits = between prefix crlf digits
-
--- ---- group_line, of ten digits with the leading zeros left out
-
-module _ (group zeros : ℕ) (digits : List ℕ) (e : digits ≡ digits_of 10 group)
-    (h : (zeros < 10) × (drop zeros digits ≡ without_leading_zeros digits)) where
-  left : length (drop zeros digits) ≡ 10 - zeros
-  left =
-      let ten : length digits ≡ 10 = ap length e ∙ length_digits 10 group in
-      length-drop zeros digits ∙ ap (λ (n : ℕ). n - zeros) ten
-
-  pub group_line_lem : sdp_line (take (10 - zeros) (drop zeros digits)) ≡ group_line group
-  group_line_lem =
-      ap sdp_line (take_all (10 - zeros) (drop zeros digits) (omega (arith, left)) ∙ h.1 ∙ ap without_leading_zeros e)
-
-  pub length-group_line : length (group_line group) ≡ 33 - zeros + 2
-  length-group_line =
-      sym (ap (λ (l : List ℕ). length (sdp_line l)) (h.1 ∙ ap without_leading_zeros e))
-      ∙ length_line (drop zeros digits)
-      ∙ omega (arith, left, h.0)
 
 -- ---- keeps_grammar
 
@@ -98,50 +78,45 @@ line_digits d digits h = (
   ap digits_in h.whole ∙ digits_in_line digits,
 )
 
--- keeps_grammar by what was looked at, in the order of its tests
+-- ---- keeps_grammar, by the ends that were taken off
 
-pub grammar_short : (d : List ℕ) → length d ≤ 25 → keeps_grammar d ≡ false
-unfolding keeps_grammar
-grammar_short d h = rw (le-ltb 25 (length d) h) refl
+pub not_kept : (d : List ℕ) → (IsSdpLine d (digits_in d) → ⊥) → keeps_grammar d ≡ false
+not_kept d none = go (keeps_grammar d) refl
+  where
+    go : (t : Bool) → keeps_grammar d ≡ t → keeps_grammar d ≡ false
+    go true e = absurd (none (kept_line d e))
+    go false e = e
 
-module _ (d : List ℕ) (h : 25 < length d) where
-  pub grammar_start : starts_with prefix d ≡ false → keeps_grammar d ≡ false
-  unfolding keeps_grammar
-  grammar_start e = rw (lt-ltb 25 (length d) h, e) refl
+module _ (d digits : List ℕ) (whole : d ≡ sdp_line digits) where
+  inside : digits_in d ≡ digits
+  inside = ap digits_in whole ∙ digits_in_line digits
 
-  module _ (start : starts_with prefix d ≡ true) where
-    pub grammar_end : starts_with crlf (drop (length d - 2) d) ≡ false → keeps_grammar d ≡ false
-    unfolding keeps_grammar
-    grammar_end e = rw (lt-ltb 25 (length d) h, start, e) refl
+  pub no_digits : length digits ≡ 0 → keeps_grammar d ≡ false
+  no_digits e = not_kept d (λ line. omega (arith, line.one_or_more, e, ap length inside))
 
-    pub grammar_digits :
-        starts_with crlf (drop (length d - 2) d) ≡ true → keeps_grammar d ≡ are_digits (slice 23 (length d - 2) d)
-    unfolding keeps_grammar
-    grammar_digits e = rw (lt-ltb 25 (length d) h, start, e) refl
+  pub other_bytes : are_digits digits ≡ false → keeps_grammar d ≡ false
+  other_bytes e = not_kept d (λ line. false≢true (sym e ∙ ap are_digits (sym inside) ∙ line.each))
+
+  pub kept_between :
+      1 ≤ length digits → are_digits digits ≡ true → (keeps_grammar d ≡ true) × (digits ≡ digits_in d)
+  kept_between some each = (ap keeps_grammar whole ∙ line_kept digits some each, sym inside)
 
 -- ---- group_in, by what was looked at
 
-pub group_not_kept : (d : List ℕ) → keeps_grammar d ≡ false → group_in d ≡ SyncGroup.Refused bad_line
+pub group_not_kept : (d : List ℕ) → keeps_grammar d ≡ false → group_in d ≡ Err RefusalNumber.BadLine
 unfolding group_in
 group_not_kept d e = rw e refl
 
--- by the length of the line
-pub few_digits : (d : List ℕ) → length d ≤ 35 → are_too_many (digits_in d) ≡ false
-few_digits d h = le-ltb 10 (length (digits_in d)) (omega (arith, count_digits d))
-
-pub many_digits : (d : List ℕ) → 35 < length d → are_too_many (digits_in d) ≡ true
-many_digits d h = lt-ltb 10 (length (digits_in d)) (omega (arith, count_digits d))
-
 module _ (d : List ℕ) (e : keeps_grammar d ≡ true) where
-  pub group-long : are_too_many (digits_in d) ≡ true → group_in d ≡ SyncGroup.Refused bad_group
+  pub group-long : are_too_many (digits_in d) ≡ true → group_in d ≡ Err RefusalNumber.BadGroup
   unfolding group_in
   group-long many = rw (e, many) refl
 
   module _ (few : are_too_many (digits_in d) ≡ false) where
-    pub group_great : greatest_group < value_of (digits_in d) → group_in d ≡ SyncGroup.Refused bad_group
+    pub group_great : greatest_group < value_of (digits_in d) → group_in d ≡ Err RefusalNumber.BadGroup
     unfolding group_in
     group_great h = rw (e, few, lt-ltb greatest_group (value_of (digits_in d)) h) refl
 
-    pub group-read : value_of (digits_in d) ≤ greatest_group → group_in d ≡ SyncGroup.Group (value_of (digits_in d))
+    pub group-read : value_of (digits_in d) ≤ greatest_group → group_in d ≡ Ok (value_of (digits_in d))
     unfolding group_in
     group-read h = rw (e, few, le-ltb greatest_group (value_of (digits_in d)) h) refl

@@ -1,53 +1,50 @@
 -- 21 before 22, then the number: each return has the law of its case. Past the first test the grammar is kept, and past
 -- the second there are at most ten digits.
-use mathlib.Core.Bool.{true}
+use Rattle.std.specs.Prelude.{Ok}
+use mathlib.Core.Bool.{true, false}
 use mathlib.Core.Path.{◌≡◌, sym, ap, ◌∙◌}
 use native.Mathlib.Omega.{arith}
-use Rattle.sdp.specs.declared.SyncGroup.{SyncGroup}
-use Rattle.sdp.specs.Answers.{keeps_grammar}
-use Rattle.sdp.proofs.Laws.Line.{
-  kept,
-  few_digits,
-  many_digits,
-  group_not_kept,
-  group-long,
-  group_great,
-  group-read,
-}
+use lib.ListN.{length}
+use Rattle.std.proofs.Common.{rules}
+use Rattle.sdp.specs.Digits.{are_digits, value_of}
+use Rattle.sdp.specs.Line.{digits_in}
+use Rattle.sdp.specs.Answers.{keeps_grammar, are_too_many}
+use borrow.Author.Tests.{lt-ltb, le-ltb}
+use Rattle.sdp.proofs.Laws.Line.{kept, group_not_kept, group-long, group_great, group-read}
 use Rattle.sdp.proofs.read_sync_group.Goals as goal
 
-pub returns-then-bad_line : goal.returns-then-bad_line
-returns-then-bad_line c =
-    sym (group_not_kept c.args.line.now (sym c.keeps_grammar-bad_line.ensures ∙ c.if-bad_line.true))
+pub returns-in_err-digits : goal.returns-in_err-digits
+returns-in_err-digits c =
+    let other : keeps_grammar c.args.line.now ≡ false = rw c.in_err-digits.ensures.ok_part at c.digits_in.ensures in
+    let refused = group_not_kept c.args.line.now other in
+    rw refused (search rules)
 
-pub returns-then-too_many : goal.returns-then-too_many
-returns-then-too_many c =
+pub returns-then-digits-gt-MOST_DIGITS : goal.returns-then-digits-gt-MOST_DIGITS
+returns-then-digits-gt-MOST_DIGITS c =
     let d = c.args.line.now in
-    let e : keeps_grammar c.args.line.now ≡ true = grind arith in
-    sym (group-long d e (many_digits d (omega arith)))
+    let found = rw c.in_ok-digits.ensures.ok_part at c.digits_in.ensures in
+    let many : are_too_many (digits_in d) ≡ true =
+    lt-ltb _ _ (omega (arith, ap length found.1, c.if-digits-gt-MOST_DIGITS.true)) in
+    sym (group-long d found.0 many)
 
-pub overflow_sub-line : goal.overflow_sub-line
-overflow_sub-line c =
-    let e : keeps_grammar c.args.line.now ≡ true = cc in
-    omega (arith, (kept c.args.line.now e).long)
-
-pub value_at-group-requires : goal.value_at-group-requires
-value_at-group-requires c =
-    let e : keeps_grammar c.args.line.now ≡ true = cc in
-    let k = kept c.args.line.now e in
-    (omega (arith, k.long), omega arith, omega (arith, k.long), k.each)
+pub value_of-group-requires : goal.value_of-group-requires
+value_of-group-requires c =
+    let found = rw c.in_ok-digits.ensures.ok_part at c.digits_in.ensures in
+    (omega arith, ap are_digits found.1 ∙ (kept c.args.line.now found.0).each)
 
 pub returns-then-group-gt-GREATEST_GROUP : goal.returns-then-group-gt-GREATEST_GROUP
 returns-then-group-gt-GREATEST_GROUP c =
     let d = c.args.line.now in
-    let e : keeps_grammar c.args.line.now ≡ true = cc in
-    let few = few_digits d (omega arith) in
-    sym (group_great d e few (omega (arith, c.value_at-group.ensures)))
+    let found = rw c.in_ok-digits.ensures.ok_part at c.digits_in.ensures in
+    let few : are_too_many (digits_in d) ≡ false =
+    le-ltb _ _ (omega (arith, ap length found.1, c.if-digits-gt-MOST_DIGITS.false)) in
+    sym (group_great d found.0 few (omega (arith, c.value_of-group.ensures, ap value_of found.1)))
 
 pub returns : goal.returns
 returns c =
     let d = c.args.line.now in
-    let e : keeps_grammar c.args.line.now ≡ true = cc in
-    let few = few_digits d (omega arith) in
-    ap SyncGroup.Group c.value_at-group.ensures
-    ∙ sym (group-read d e few (omega (arith, c.value_at-group.ensures)))
+    let found = rw c.in_ok-digits.ensures.ok_part at c.digits_in.ensures in
+    let few : are_too_many (digits_in d) ≡ false =
+    le-ltb _ _ (omega (arith, ap length found.1, c.if-digits-gt-MOST_DIGITS.false)) in
+    let group = c.value_of-group.ensures ∙ ap value_of found.1 in
+    ap Ok group ∙ sym (group-read d found.0 few (omega (arith, group)))

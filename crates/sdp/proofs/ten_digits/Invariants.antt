@@ -1,6 +1,4 @@
--- The digits that are left to put, and behind them those that were put, make up all ten. The measure is how many are
--- left.
-use Prim.Native.Nat.{◌≤◌}
+-- The digits that are left to put, and behind them those that were put, make up all ten.
 use mathlib.Core.List.{◌++◌}
 use mathlib.Core.Path.{◌≡◌}
 use lib.ListN.{length, drop}
@@ -9,8 +7,4 @@ use Rattle.sdp.proofs.ten_digits.Given as goal
 
 abbrev pub invariant-loop-i : goal.invariant-loop-i
 invariant-loop-i l =
-    (l.i ≤ 10) × (length l.digits ≡ 10) × (digits_of l.i l.rest ++ drop l.i l.digits ≡ digits_of 10 l.n)
-
-abbrev pub decreases-loop-i : goal.decreases-loop-i
-decreases-loop-i l =
-    l.i
+    (length l.digits ≡ 10) × (digits_of l.i l.rest ++ drop l.i l.digits ≡ digits_of 10 l.n)

@@ -17,7 +17,8 @@ use Rattle.places.proofs.Laws.Bits.{with_fits, without_fits}
 use Rattle.places.proofs.Laws.Free.{lowest_free_below, full_held}
 use Rattle.register.specs.declared.Record.{Record}
 use Rattle.register.specs.declared.Member.{Member}
-use Rattle.register.specs.Register.{Opening, Rows, Call, filter, any, has_number, is_held_elsewhere, has_no_room, renewed}
+use Rattle.register.specs.declared.Opening.{Opening}
+use Rattle.register.specs.Register.{Rows, Call, filter, any, has_number, is_held_elsewhere, has_no_room, renewed}
 use Rattle.register.specs.Register.{farewell_checks, fresh_at, answer, accepted, after}
 use Rattle.register.specs.Promise.{Unique}
 use Rattle.register.proofs.Rows.{any-permuted, filter-permuted, length-permuted, any-filter, any_and_none}

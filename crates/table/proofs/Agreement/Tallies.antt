@@ -14,7 +14,8 @@ use Rattle.places.proofs.Laws.Free.{lowest_free_below}
 use Rattle.refusals.specs.Refusals.{other_origin}
 use Rattle.register.specs.declared.Record.{Record}
 use Rattle.register.specs.declared.Member.{Member}
-use Rattle.register.specs.Register.{Opening, Call, filter, farewell_checks, fresh_at, after}
+use Rattle.register.specs.declared.Opening.{Opening}
+use Rattle.register.specs.Register.{Call, filter, farewell_checks, fresh_at, after}
 use Rattle.register.specs.Tallies.{Members, records_of, raised, is_under, tally_in, tally_behind, members_after}
 use Rattle.register.proofs.Rows.{kept_member, member_permuted}
 use Rattle.register.proofs.Unique.{unique-permuted}

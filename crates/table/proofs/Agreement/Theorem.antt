@@ -1,6 +1,9 @@
 -- Demand 3, one theorem: by induction over the calls, table and register answer alike and stay in agreement; choosing
 -- on the table is then the register's choice, whatever the order of rows, by the theorem of `choosing`.
 use Prim.Native.Nat.{ℕ, suc, ◌<◌}
+use Rattle.std.specs.Prelude.{Result}
+use Rattle.register.specs.declared.Target.{Target}
+use Rattle.refusals.specs.declared.RefusalNumber.{RefusalNumber}
 use mathlib.Core.Bool.{Bool, true, false, and-eq-true_iff}
 use mathlib.Core.List.Memᴰ
 use mathlib.Core.List.{List, [], ◌∷◌, ◌++◌, Memᴰ, Permᴰ}
@@ -14,8 +17,8 @@ use Rattle.places.specs.Places.{is_held, holds_place}
 use Rattle.register.specs.declared.Record.{Record}
 use Rattle.register.specs.declared.Member.{Member}
 use Rattle.register.specs.declared.Reading.{Reading}
-use Rattle.register.specs.declared.Choice.{Choice}
-use Rattle.register.specs.Register.{Opening, Rows, Call, is_refused_opening, filter, answer, after, answers, after_all}
+use Rattle.register.specs.declared.Opening.{Opening}
+use Rattle.register.specs.Register.{Rows, Call, is_refused_opening, filter, answer, after, answers, after_all}
 use Rattle.register.specs.Tallies.{Members, records_of, members_after, members_after_all}
 use Rattle.register.specs.Choosing.{choice}
 use Rattle.register.specs.Promise.{AllInRange, Promised}
@@ -277,7 +280,7 @@ demand3 o calls t ms reached =
           (letter-shown o (history calls (answers o [] calls)) (IsMember o) (IsShown o)
           (shown_member o reached.taken)
           (letter o calls));
-      chosen = λ at. ap (λ (c : Choice). record { choice = c; table = t }) (chosen-same o t (records_of ms) holds at);
+      chosen = λ at. ap (λ (c : Result Target RefusalNumber). record { choice = c; table = t }) (chosen-same o t (records_of ms) holds at);
       promised = promised-same o t (records_of ms) holds sound;
     }
 

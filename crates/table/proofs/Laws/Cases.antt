@@ -1,89 +1,31 @@
--- What each return of a call answers, from the tests that led there.
+-- What a call answers, from the tests on its place.
 use Prim.Native.Nat.{ℕ, ◌≤◌, ◌<◌}
 use mathlib.Core.Bool.{Bool, true, false, cond, ◌&&◌}
 use mathlib.Core.Path.{◌≡◌, refl, sym, ap, ◌∙◌}
-use mathlib.Core.List.{[], ◌∷◌}
-use mathlib.Core.Logic.{⊎_elim}
 use lib.Dec.{eqb}
-use lib.ListN.{get_or, set}
+use lib.ListN.{set}
 use native.Mathlib.Omega.{arith}
 use borrow.Author.Tests.{eqb-false, ne_eqb, lt-ltb, le-ltb}
-use denote.Enum.Declared.{tag_of}
-use types.Run.{OneOf}
-use Rattle.idms.specs.contracts.Item.{the_type}
-use Rattle.idms.specs.declared.Item.{Item}
-use Rattle.refusals.specs.Refusals.{bad_opening, other_stream, other_origin, received_far, rtp_aged, badly_presented}
+use Rattle.refusals.specs.Refusals.{other_stream, other_origin, received_far, rtp_aged, badly_presented}
 use Rattle.refusals.specs.Refusals.{no_room, no_member}
 use Rattle.times.specs.Times.{is_far, is_aged, is_badly_presented}
 use Rattle.places.proofs.Laws.Free.{lowest_free_within}
 use Rattle.origin.specs.declared.Origin.{Origin}
-use Rattle.places.specs.Places.{holds_place, lowest_free, with_place, without_place}
+use Rattle.places.specs.Places.{lowest_free, with_place, without_place}
 use Rattle.register.specs.declared.Record.{Record}
-use Rattle.register.specs.declared.Member.{Member}
 use Rattle.register.specs.declared.Reading.{Reading}
-use Rattle.register.specs.Register.{Opening, Call, is_refused_opening, presents, is_other_stream}
+use Rattle.register.specs.declared.Opening.{Opening}
+use Rattle.register.specs.Register.{Call, presents, is_other_stream}
 use Rattle.register.specs.Register.{report_checks, farewell_checks}
 use Rattle.register.specs.Tallies.{Members}
 use Rattle.register.proofs.Stands.{accepted_room}
 use Rattle.register.proofs.Tallies.{rows-set}
-use Rattle.choosing.specs.Marked.{nowhere, nobody}
+use Rattle.choosing.specs.Marked.{nowhere}
 use Rattle.choosing.proofs.Laws.Marked.{row_at}
 use Rattle.table.specs.declared.Table.{Table}
-use Rattle.table.specs.declared.Place.{Place}
-use Rattle.table.specs.declared.Answered.{Answered}
-use Rattle.table.specs.declared.Outcome.{Outcome}
-use Rattle.table.specs.declared.Taken.{Taken}
-use Rattle.table.specs.Members.{opening_of, empty_table, vacant, place_at, records_in, place_in}
-use Rattle.table.specs.Calls.{
-  opened,
-  is_member,
-  elsewhere_at,
-  is_elsewhere,
-  no_room_at,
-  is_without_room,
-  number_of,
-  with_held,
-  tally_at,
-  filed,
-  accepted_by,
-  with_raised,
-  source_of,
-  refused_by,
-  answered,
-}
-use Rattle.table.specs.Intake.{call_taken, taken}
+use Rattle.table.specs.Members.{opening_of, records_in, place_in}
+use Rattle.table.specs.Calls.{is_member, elsewhere_at, is_elsewhere, no_room_at, is_without_room, number_of, with_held, tally_at, filed, accepted_by, with_raised, source_of, refused_by, answered}
 use Rattle.table.proofs.Laws.Members.{set_same}
-
--- ---- opening
-
-pub opened-refused :
-    (o : Opening) → (t : Table) → is_refused_opening o ≡ true →
-    t ≡ empty_table (record { group = 0; media = 0; rate = 0 }) →
-    record { number = bad_opening; table = t } ≡ opened o
-unfolding opened
-opened-refused o t e h = rw (e, h) refl
-
-pub opened-taken :
-    (o : Opening) → (t : Table) → is_refused_opening o ≡ false → t ≡ empty_table o →
-    record { number = 0; table = t } ≡ opened o
-unfolding opened
-opened-taken o t e h = rw (e, h) refl
-
--- ---- a member's place
-
-pub place_free :
-    (t : Table) → (place : ℕ) → (s : Place) → holds_place t.held place ≡ false →
-    s ≡ record { held = 0; member = vacant } →
-    s ≡ place_at t place
-unfolding place_at
-place_free t place s e h = rw e h
-
-pub place_held :
-    (t : Table) → (place : ℕ) → (m : Member) → holds_place t.held place ≡ true →
-    m ≡ get_or t.members place nobody →
-    record { held = 1; member = m } ≡ place_at t place
-unfolding place_at
-place_held t place m e h = rw (e, h) refl
 
 -- ---- any call
 
@@ -217,14 +159,14 @@ free_place_lem t source new room =
 module _ (t : Table) (x : Record) (place : ℕ) (e : place ≡ place_in t x.source) (members : Members) where
   pub filed_again :
       place < 64 → members ≡ set t.members place (record { «record» = x; tally = tally_at t place }) →
-      record { group = t.group; media = t.media; rate = t.rate; held = t.held; members = members } ≡ filed t x
+      record { opening = t.opening; held = t.held; members = members } ≡ filed t x
   unfolding filed
   filed_again h f = rw (lt-ltb (place_in t x.source) 64 (omega arith), f, e) refl
 
   pub filed_anew :
       (free word : ℕ) → 64 ≤ place → free ≡ lowest_free 64 t.held → word ≡ with_place t.held free →
       members ≡ set t.members free (record { «record» = x; tally = 0 }) →
-      record { group = t.group; media = t.media; rate = t.rate; held = word; members = members } ≡ filed t x
+      record { opening = t.opening; held = word; members = members } ≡ filed t x
   unfolding filed
   filed_anew free word h f g k = rw (le-ltb (place_in t x.source) 64 (omega arith), k, g, f) refl
 
@@ -236,22 +178,3 @@ records-tallied t place =
     rows-set t.members place _
     ∙ ap (λ (x : Record). set (records_in t) place x) (sym (row_at t.members place))
     ∙ set_same (records_in t) place nowhere
-
--- ---- an item
-
--- no report by its tag, and no farewell: settings
-pub item-passed :
-    (t : Table) → (i : Item) → (origin : Origin) → (at : Reading) → OneOf (1 ∷ 2 ∷ []) (tag_of the_type i) →
-    OneOf (0 ∷ 1 ∷ []) (tag_of the_type i) →
-    record { outcome = Outcome.Passed; table = t } ≡ taken t i origin at
-unfolding taken
-item-passed t (Item.Report r) origin at h k = absurd (⊎_elim (λ z. omega arith) (λ z. omega arith) h)
-item-passed t (Item.Settings s) origin at h k = refl
-item-passed t (Item.Farewell source) origin at h k = absurd (⊎_elim (λ z. omega arith) (λ z. omega arith) k)
-
--- a report or a farewell by its call
-pub item_called :
-    (t : Table) → (call : Call) → (a : Answered) → (u : Taken) → a ≡ answered t call →
-    u ≡ record { outcome = Outcome.Number a.number; table = a.table } →
-    u ≡ call_taken t call
-item_called t call a u e f = rw e at f

@@ -1,20 +1,21 @@
--- What each return of a filing answers, from the tests that led there, and that storing it leaves the table that the
--- call leaves.
+-- A filing has its call's number and one of the 64 places, and the table with that stored is the one that the call
+-- leaves.
 use Prim.Native.Nat.{ℕ, ◌%◌, ◌≤◌, ◌<◌}
 use mathlib.Core.Bool.{Bool, true, false, cond}
 use mathlib.Core.Path.{◌≡◌, refl, sym, ap, ◌∙◌}
 use lib.Dec.{ltb, eqb}
 use lib.ListN.{length, get_or}
 use native.Mathlib.Omega.{arith}
-use borrow.Author.Tests.{eqb-true, eqb-false, ne_eqb, ltb-true, ltb-false, lt-ltb, le-ltb}
+use borrow.Author.Tests.{eqb-true, eqb-false, ltb-true, ltb-false, lt-ltb, le-ltb}
 use Rattle.origin.specs.declared.Origin.{Origin}
 use Rattle.refusals.specs.Refusals.{other_origin, no_member}
-use Rattle.places.specs.Places.{lowest_free, with_place, without_place}
+use Rattle.places.specs.Places.{lowest_free, without_place}
 use Rattle.places.proofs.Laws.Free.{lowest_free_within}
 use Rattle.register.specs.declared.Record.{Record}
 use Rattle.register.specs.declared.Member.{Member}
 use Rattle.register.specs.declared.Reading.{Reading}
-use Rattle.register.specs.Register.{Opening, Call, report_checks, farewell_checks}
+use Rattle.register.specs.declared.Opening.{Opening}
+use Rattle.register.specs.Register.{Call, farewell_checks}
 use Rattle.register.specs.Tallies.{Members, raised}
 use Rattle.register.proofs.Stands.{accepted_room}
 use Rattle.choosing.specs.Marked.{nobody}
@@ -24,7 +25,7 @@ use Rattle.table.specs.declared.Answered.{Answered}
 use Rattle.table.specs.declared.filing.Filing.{Filing}
 use Rattle.table.specs.Members.{opening_of, place_in}
 use Rattle.table.specs.Calls.{is_member, number_of, with_held, answered}
-use Rattle.table.specs.Filing.{member_after, has_other_origin, known_number, known_filing, is_full}
+use Rattle.table.specs.Filing.{has_other_origin, known_number, known_filing, is_full}
 use Rattle.table.specs.Filing.{new_number, new_filing, report_number_at, report_filing, farewell_number_at}
 use Rattle.table.specs.Filing.{farewell_filing, member_there, filing_of, with_filing}
 use Rattle.table.proofs.Laws.Members.{set_same}
@@ -33,97 +34,7 @@ use Rattle.table.proofs.Laws.Cases.{call_refused, call_accepted, report_elsewher
 use Rattle.table.proofs.Laws.Cases.{report-tallied, filed_again, filed_anew, farewell_stranger}
 use Rattle.table.proofs.Laws.Cases.{elsewhere_there, is_other, farewell_elsewhere, farewell-taken}
 
--- ---- the member at a number's place
-
-module _ (there : Member) (x : Record) (number : ℕ) where
-  pub member_tallied :
-      (tally : ℕ) → number ≡ other_origin → tally ≡ raised there.tally →
-      record { «record» = there.«record»; tally = tally } ≡ member_after there x number
-  member_tallied tally e f = rw (e, f) refl
-
-  pub member_left : (number ≡ other_origin → ⊥) → (number ≡ 0 → ⊥) → there ≡ member_after there x number
-  member_left h k = rw (ne_eqb number other_origin h, ne_eqb number 0 k) refl
-
-  pub member_filed : number ≡ 0 → record { «record» = x; tally = there.tally } ≡ member_after there x number
-  member_filed e = rw e refl
-
--- ---- a report's number
-
-module _ (o : Opening) (held place : ℕ) (there : Member) (x : Record) (at : Reading) (number : ℕ) where
-  pub number_known :
-      (elsewhere : Bool) → place < 64 → elsewhere ≡ has_other_origin there x.origin →
-      number ≡ report_checks o x at elsewhere false →
-      number ≡ report_number_at o held place there x at
-  number_known elsewhere h e f = rw (lt-ltb place 64 h) (rw e at f)
-
-  pub number-new :
-      (free : ℕ) (full : Bool) → 64 ≤ place → free ≡ lowest_free 64 held → full ≡ eqb free 64 →
-      number ≡ report_checks o x at false full →
-      number ≡ report_number_at o held place there x at
-  number-new free full h e f g = rw (le-ltb place 64 h) (rw (f, e) at g)
-
--- ---- a filing
-
-module _ (held place : ℕ) (there : Member) (x : Record) (number : ℕ) where
-  pub filed_known :
-      (member : Member) → place < 64 → member ≡ member_after there x number →
-      record { number = number; place = place; held = held; member = member } ≡ report_filing held place there x number
-  filed_known member h e = rw (lt-ltb place 64 h, e) refl
-
-  pub filed-refused :
-      64 ≤ place → (number ≡ 0 → ⊥) →
-      record { number = number; place = 0; held = held; member = there } ≡ report_filing held place there x number
-  filed-refused h k = rw (le-ltb place 64 h, ne_eqb number 0 k) refl
-
-  pub filed-new :
-      (free word : ℕ) (member : Member) → 64 ≤ place → number ≡ 0 → free ≡ lowest_free 64 held →
-      word ≡ with_place held free →
-      member ≡ record { «record» = x; tally = 0 } →
-      record { number = 0; place = free; held = word; member = member } ≡ report_filing held place there x number
-  filed-new free word member h n e k m = rw (le-ltb place 64 h, n, m, k, e) refl
-
--- ---- a farewell
-
-module _ (place : ℕ) (there : Member) (origin : Origin) where
-  -- whether it is another's
-  abbrev has_other : Bool
-  has_other = has_other_origin there origin
-
-  pub farewell_number_none : 64 ≤ place → no_member ≡ farewell_number_at place there origin
-  unfolding farewell_checks
-  farewell_number_none h = rw (le-ltb place 64 h) refl
-
-  pub farewell_number_other :
-      (b : Bool) → place < 64 → b ≡ has_other → b ≡ true → other_origin ≡ farewell_number_at place there origin
-  unfolding farewell_checks
-  farewell_number_other b h e f =
-      let is : has_other ≡ true = sym e ∙ f in
-      rw (lt-ltb place 64 h, is) refl
-
-  pub farewell_number_same :
-      (b : Bool) → place < 64 → b ≡ has_other → b ≡ false → 0 ≡ farewell_number_at place there origin
-  unfolding farewell_checks
-  farewell_number_same b h e f =
-      let is : has_other ≡ false = sym e ∙ f in
-      rw (lt-ltb place 64 h, is) refl
-
-module _ (held place : ℕ) (there : Member) (number : ℕ) where
-  pub farewell-none :
-      64 ≤ place →
-      record { number = number; place = 0; held = held; member = there } ≡ farewell_filing held place there number
-  farewell-none h = rw (le-ltb place 64 h) refl
-
-  pub farewell-refused :
-      (left : Member) → place < 64 → (number ≡ 0 → ⊥) → left ≡ member_after there there.«record» number →
-      record { number = number; place = place; held = held; member = left } ≡ farewell_filing held place there number
-  farewell-refused left h k e = rw (e, lt-ltb place 64 h, ne_eqb number 0 k) refl
-
-  pub farewell-accepted :
-      (word : ℕ) → place < 64 → number ≡ 0 → word ≡ without_place held place →
-      record { number = 0; place = place; held = word; member = there } ≡ farewell_filing held place there number
-  farewell-accepted word h n w = rw (lt-ltb place 64 h, n, w) refl
-
--- ---- a report's filing has its number, and one of the 64 places: accepted, a new member finds room
+-- ---- a filing has its call's number, and a report's one of the 64 places: accepted, a new member finds room
 
 pub filing_number :
     (held place : ℕ) (there : Member) (x : Record) (number : ℕ) →
@@ -136,6 +47,17 @@ filing_number held place there x number = go (ltb place 64) refl (eqb number 0) 
     go true a b f = rw a refl
     go false a true f = rw (a, f) (sym (eqb-true number 0 f))
     go false a false f = rw (a, f) refl
+
+pub farewell_filing_number :
+    (held place : ℕ) (there : Member) (number : ℕ) → (farewell_filing held place there number).number ≡ number
+farewell_filing_number held place there number = go (ltb place 64) refl (eqb number 0) refl
+  where
+    go :
+        (a : Bool) → ltb place 64 ≡ a → (b : Bool) → eqb number 0 ≡ b →
+        (farewell_filing held place there number).number ≡ number
+    go false a b f = rw a refl
+    go true a true f = rw (a, f) (sym (eqb-true number 0 f))
+    go true a false f = rw (a, f) refl
 
 pub filing_within :
     (o : Opening) (held place : ℕ) (there : Member) (x : Record) (at : Reading) (number : ℕ) →
@@ -159,7 +81,7 @@ abbrev kept : Table → ℕ → Members → Answered
 kept t number ms =
     record {
       number = number;
-      table = record { group = t.group; media = t.media; rate = t.rate; held = t.held; members = ms };
+      table = record { opening = t.opening; held = t.held; members = ms };
     }
 
 module _ (t : Table) (x : Record) (at : Reading) where
@@ -288,13 +210,13 @@ module _
       below : ltb place 64 ≡ true
       below = lt-ltb place 64 h
 
-      is_elsewhere_lem : has_other place there origin ≡ is_other t source place origin e
+      is_elsewhere_lem : has_other_origin there origin ≡ is_other t source place origin e
       is_elsewhere_lem =
           elsewhere_there t source place e origin _
           (ap (λ (mine : Member). has_other_origin mine origin) (own_there h)
           ∙ rw (below, row_at t.members place) refl)
 
-      with_member_lem : (b : Bool) → has_other place there origin ≡ b → Stored × (f.place < 64)
+      with_member_lem : (b : Bool) → has_other_origin there origin ≡ b → Stored × (f.place < 64)
       unfolding farewell_checks
       with_member_lem true o =
           let is : number ≡ other_origin = rw (below, o) at n in
@@ -319,7 +241,7 @@ module _
     farewell_stored = go (ltb place 64) refl
       where
         go : (b : Bool) → ltb place 64 ≡ b → Stored × (f.place < 64)
-        go true b = with_member_lem (ltb-true place 64 b) (has_other place there origin) refl
+        go true b = with_member_lem (ltb-true place 64 b) (has_other_origin there origin) refl
         go false b = without_member (ltb-false place 64 b)
 
 -- what a report does is the table's filing

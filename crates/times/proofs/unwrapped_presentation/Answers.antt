@@ -7,16 +7,11 @@ use Rattle.times.proofs.unwrapped_presentation.Goals as goal
 
 pub returns-then-step-eq0 : goal.returns-then-step-eq0
 unfolding step
-returns-then-step-eq0 c =
-    let args = c.args in
-    let same : _ = c.rtp_age-step.ensures in
-    let sum : _ = step-zero args.received args.presented (sym same ∙ c.if-step-eq0.true) in
-    (omega (arith, sum), omega arith, omega arith)
+returns-then-step-eq0 c = step-zero c.args.received c.args.presented (sym c.rtp_age-step.ensures ∙ c.if-step-eq0.true)
 
-pub returns : goal.returns
+pub returns-else-step-eq0 : goal.returns-else-step-eq0
 unfolding step
-returns c =
-    let args = c.args in
+returns-else-step-eq0 c =
     let same : _ = c.rtp_age-step.ensures in
-    let sum : _ = step_other args.received args.presented (λ z. c.if-step-eq0.false (same ∙ z)) in
-    (omega (arith, sum, same), omega arith, omega arith)
+    let sum : _ = step_other c.args.received c.args.presented (λ z. c.if-step-eq0.false (same ∙ z)) in
+    omega (arith, sum, same)

@@ -1,16 +1,12 @@
 -- Laws of the messages' bytes, and of the fields that may be written.
-use Prim.Native.Nat.{ℕ, ◌+◌, ◌≤◌, ◌<◌}
+use Prim.Native.Nat.{ℕ, ◌<◌}
 use mathlib.Core.Path.{◌≡◌, refl}
-use mathlib.Core.List.{List, [], ◌∷◌}
-use mathlib.Core.Bool.{Bool, true, false, not, ◌&&◌, ◌||◌}
+use mathlib.Core.Bool.{false, not, ◌&&◌, ◌||◌}
 use mathlib.Mathlib.Data.Bool.Basic.{or-eq-false-eq-eq-false-and-eq-false}
-use lib.ListN.{length, set}
-use lib.Seq.{paste, sets-eq}
-use native.Mathlib.Numerals.{add-one, add-two, add-three}
+use lib.ListN.{length}
 use native.Mathlib.Omega.{arith}
 use lib.Dec.{ltb, eqb}
 use borrow.Author.Tests.{ltb-false, eqb-true, not-false}
-use mir.Val.{bool_byte}
 use Rattle.idms.specs.declared.Report.{Report}
 use Rattle.writer.specs.Messages.{bytes32, report_is_unwritable}
 
@@ -18,16 +14,6 @@ use Rattle.writer.specs.Messages.{bytes32, report_is_unwritable}
 
 pub length-bytes32 : (w : ℕ) → length (bytes32 w) ≡ 4
 length-bytes32 w = refl
-
--- four stores, one behind the other, put four numbers at a place
-pub four_stores :
-    (l : List ℕ) (at a b c d : ℕ) → at + 4 ≤ length l
-    → set (set (set (set l at a) (at + 1) b) (at + 2) c) (at + 3) d ≡ paste l at (a ∷ b ∷ c ∷ d ∷ []) 4
-four_stores l at a b c d h = rw (add-one at, add-two at, add-three at) (sets-eq (a ∷ b ∷ c ∷ d ∷ []) l at h)
-
-pub flag_bound : (t : Bool) → bool_byte t ≤ 1
-flag_bound true = omega arith
-flag_bound false = omega arith
 
 -- ---- report_is_unwritable
 

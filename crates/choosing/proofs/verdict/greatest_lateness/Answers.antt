@@ -1,28 +1,18 @@
--- After i places the greatest of the rows so far. The measure is how many places are left.
-use Prim.Native.Nat.{◌≤◌, ◌<◌}
-use lib.ListN.{length}
-use native.Mathlib.Omega.{arith}
+-- The latest's lateness is the greatest.
+use mathlib.Core.Path.{ap, ◌∙◌}
 use Rattle.register.specs.Tallies.{records_of}
-use Rattle.register.proofs.Tallies.{length-rows}
-use Rattle.choosing.proofs.Laws.Marked.{row_at}
-use Rattle.choosing.proofs.Laws.Verdict.{greatest-start, greatest-part, greatest-step}
-use Rattle.choosing.proofs.Laws.Verdict.{greatest_end}
+use Rattle.choosing.specs.declared.Candidate.{Candidate}
+use Rattle.choosing.specs.Marked.{marked_at}
+use Rattle.choosing.proofs.Laws.Verdict.{greatest_none, greatest_one}
 use Rattle.choosing.proofs.verdict.greatest_lateness.Goals as goal
 
-pub loop-i-init : goal.loop-i-init
-loop-i-init c = (omega arith, greatest-start)
+pub returns-in-Some : goal.returns-in-Some
+returns-in-Some c =
+    let x = c.args in
+    ap (λ (a : Candidate). a.late) c.in-Some.ensures.1
+    ∙ greatest_one x.rate x.at (marked_at x.word (records_of x.members.now)) _ c.in-Some.ensures.2
 
-pub greatest_next-most-requires : goal.greatest_next-most-requires
-greatest_next-most-requires c = greatest-part c.loop-i.invariant.1
-
-pub loop-i-preserved : goal.loop-i-preserved
-loop-i-preserved c =
-    let ms = c.args.members in
-    let within : c.loop-i.i < length (records_of ms) = omega (arith, c.well_formed, length-rows ms) in
-    (omega arith, greatest-step within c.loop-i.invariant.1 (rw (← row_at ms c.loop-i.i) at c.greatest_next-most.ensures))
-
-pub returns : goal.returns
-returns c =
-    let ms = c.args.members in
-    let all : length (records_of ms) ≤ c.loop-i.i = omega (arith, c.well_formed, length-rows ms) in
-    greatest_end all c.loop-i.invariant.1
+pub returns-in-None : goal.returns-in-None
+returns-in-None c =
+    let x = c.args in
+    greatest_none x.rate x.at (marked_at x.word (records_of x.members.now)) c.in-None.ensures

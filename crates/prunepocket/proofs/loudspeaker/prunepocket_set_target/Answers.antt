@@ -1,16 +1,15 @@
--- The set on the record's three numbers, its one field written back.
-use Rattle.std.proofs.Common.{ap, rules, SFits, w64}
-use Rattle.playout.specs.declared.TargetSet.{TargetSet}
-use Rattle.playout.proofs.Laws.{set_record, read}
+-- The target that the set answers is written back, or nothing is.
+use Rattle.std.proofs.Common.{◌∙◌}
+use Rattle.playout.proofs.Laws.{read}
+use Rattle.playout.proofs.Lent.{set-accepted, set-refused}
 use Rattle.prunepocket.proofs.loudspeaker.prunepocket_set_target.Goals as goal
 
-pub returns : goal.returns
-returns c =
-    let now = c.args.clock.now in
-    let current : SFits w64 now.current = search rules in
-    let target : SFits w64 now.target = search rules in
-    let step : SFits w64 now.step = search rules in
-    let given : SFits w64 c.args.target = search rules in
-    let written : SFits w64 c.set_target-t.result.target = search rules in
-    let told = rw (read current, read target, read step, read given) at c.set_target-t.ensures in
-    (ap (λ (t : TargetSet). t.number) told, rw (read written, told) (set_record now c.args.target))
+pub returns-in-Ok : goal.returns-in-Ok
+returns-in-Ok c =
+    set-accepted c.args.clock.now c.args.target c.in-Ok.written (rw (read c.ranges.target) at c.in-Ok.ensures)
+
+pub returns-in-Err : goal.returns-in-Err
+returns-in-Err c =
+    let refused =
+    set-refused c.args.clock.now c.args.target c.in-Err.refused (rw (read c.ranges.target) at c.in-Err.ensures) in
+    (c.number.ensures ∙ refused.0, refused.1)

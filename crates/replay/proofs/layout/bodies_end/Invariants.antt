@@ -1,4 +1,4 @@
--- The end after i bodies, with what is left to add. The measure is how many are left.
+-- The end after i bodies, with what is left to add.
 use Prim.Native.Nat.{◌+◌, ◌-◌, ◌*◌, ◌≤◌}
 use mathlib.Core.Path.{◌≡◌}
 use Rattle.replay.specs.Recording.{entry_place, bodies_end}
@@ -6,9 +6,5 @@ use Rattle.replay.proofs.layout.bodies_end.Given as goal
 
 abbrev pub invariant-loop-i : goal.invariant-loop-i
 invariant-loop-i l =
-    (l.i ≤ l.n) × (l.end ≤ entry_place l.n + 65535 * l.i)
+    (l.end ≤ entry_place l.n + 65535 * l.i)
     × (bodies_end l.f (l.n - l.i) (entry_place l.i) l.end ≡ bodies_end l.f l.n (entry_place 0) (entry_place l.n))
-
-abbrev pub decreases-loop-i : goal.decreases-loop-i
-decreases-loop-i l =
-    l.n - l.i

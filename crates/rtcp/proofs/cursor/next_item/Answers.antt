@@ -1,34 +1,21 @@
 -- Steps up to an item: each step that gives none keeps what comes next. The measure is what is left to step over.
-use mathlib.Core.Path.{refl, sym, ◌∙◌}
+use mathlib.Core.Path.{◌≡◌, sym, ◌∙◌}
+use Rattle.std.proofs.Common.{rules}
+use Rattle.std.specs.Prelude.{None}
 use Rattle.rtcp.proofs.Laws.Cursor.{left_falls, next_item_lem, next_end, next_onward}
 use Rattle.rtcp.proofs.cursor.next_item.Goals as goal
 
-pub loop-x-init : goal.loop-x-init
-loop-x-init c = refl
+pub returns-in_err-x : goal.returns-in_err-x
+returns-in_err-x c =
+    let e : c.from_residual.result ≡ None = search rules in
+    e ∙ sym (c.loop-x.invariant ∙ next_end c.args.d.now c.loop-x.c (search rules))
 
 pub returns-in-Item : goal.returns-in-Item
 returns-in-Item c =
-    let inv = c.loop-x.invariant in
-    let d = c.args.d.now in
-    let c' = c.loop-x.c in
-    sym (inv ∙ next_item_lem d c' c.in-Item.x c.in-Item.next (sym c.stepped.ensures ∙ c.in-Item.is))
+    sym (c.loop-x.invariant ∙ next_item_lem c.args.d.now c.loop-x.c c.in-Item.x c.in-Item.next (search rules))
 
 pub loop-x-smaller : goal.loop-x-smaller
-loop-x-smaller c =
-    let d = c.args.d.now in
-    let c' = c.loop-x.c in
-    left_falls d c' c.in-Onward.next (sym c.stepped.ensures ∙ c.in-Onward.is)
+loop-x-smaller c = left_falls c.args.d.now c.loop-x.c c.in-Onward.next (search rules)
 
 pub loop-x-preserved : goal.loop-x-preserved
-loop-x-preserved c =
-    let inv = c.loop-x.invariant in
-    let d = c.args.d.now in
-    let c' = c.loop-x.c in
-    inv ∙ next_onward d c' c.in-Onward.next (sym c.stepped.ensures ∙ c.in-Onward.is)
-
-pub returns-in-End : goal.returns-in-End
-returns-in-End c =
-    let inv = c.loop-x.invariant in
-    let d = c.args.d.now in
-    let c' = c.loop-x.c in
-    sym (inv ∙ next_end d c' (sym c.stepped.ensures ∙ c.in-End.is))
+loop-x-preserved c = c.loop-x.invariant ∙ next_onward c.args.d.now c.loop-x.c c.in-Onward.next (search rules)

@@ -5,13 +5,16 @@ use mathlib.Core.List.{List}
 use lib.ListN.{length}
 use lib.Seq.{paste}
 use native.Mathlib.Omega.{arith}
+use Rattle.std.proofs.Common.{rules}
+use Rattle.std.specs.Prelude.{Some}
 use Rattle.idms.specs.Rows.{row_of}
 use Rattle.idms.specs.declared.Item.{Item}
 use Rattle.idms.specs.declared.Settings.{Settings}
+use Rattle.packet.specs.Settings.{settings_at}
 use Rattle.packet.specs.Contents.{contents}
 use Rattle.datagram.specs.Datagram.{parts_check}
 use Rattle.datagram.proofs.Laws.Datagram.{items_of}
-use Rattle.packet.proofs.Laws.Contents.{holds, held_sources, readable_packet, packet_read, settings-read, settings_not_outside}
+use Rattle.packet.proofs.Laws.Contents.{holds, held_sources, readable_packet, packet_read, settings-read, settings_there}
 use Rattle.rtcp.proofs.rows.fill_packet.Goals as goal
 
 pub fill_sources-requires : goal.fill_sources-requires
@@ -63,23 +66,12 @@ returns-in-Blocks c =
     let e : contents d p ≡ _ = sym c.requires.0 ∙ c.in-Blocks.is in
     rw (items_of d p e) c.fill_blocks.ensures
 
-pub returns-in-Outside : goal.returns-in-Outside
-returns-in-Outside c =
+pub returns-in-Settings : goal.returns-in-Settings
+returns-in-Settings c =
     let d = c.args.d.now in
     let p = c.args.p in
     let e : contents d p ≡ _ = sym c.requires.0 ∙ c.in-Settings.is in
-    absurd
-    (settings_not_outside d p _ (packet_read d p c.requires.1 ∙ e)
-    (sym c.settings_at.ensures ∙ c.in-Outside.is))
-
-pub returns-in-Fields : goal.returns-in-Fields
-returns-in-Fields c =
-    let d = c.args.d.now in
-    let p = c.args.p in
-    let e : contents d p ≡ _ = sym c.requires.0 ∙ c.in-Settings.is in
-    let f : _ =
-    settings-read d p _ (packet_read d p c.requires.1 ∙ e) _
-    (sym c.settings_at.ensures ∙ c.in-Fields.is) in
+    let f : _ = settings-read d p _ (packet_read d p c.requires.1 ∙ ap Some e) c.unwrap.result (search rules) in
     let row : Settings → List ℕ = λ x. row_of (record { place = p; item = Item.Settings x }) in
     rw (items_of d p e) (
       omega arith,
@@ -87,9 +79,11 @@ returns-in-Fields c =
           ∙ ap (λ (x : Settings). paste c.args.rows.now c.args.at (row x) 10) f,
     )
 
-pub returns-in-Unreadable : goal.returns-in-Unreadable
-returns-in-Unreadable c =
+pub unwrap-requires : goal.unwrap-requires
+unwrap-requires c =
     let d = c.args.d.now in
     let p = c.args.p in
-    let e : contents d p ≡ _ = sym c.requires.0 ∙ c.in-Unreadable.is in
-    rw (items_of d p e) (omega arith, refl)
+    let e : contents d p ≡ _ = sym c.requires.0 ∙ c.in-Settings.is in
+    let f : c.settings_at.result ≡ Some (settings_at d p) =
+    c.settings_at.ensures ∙ settings_there d p _ (packet_read d p c.requires.1 ∙ ap Some e) in
+    search rules

@@ -1,14 +1,11 @@
--- A row for each source in turn; `Filling` says what is left to put. The measure is what is left of the sources.
+-- A row for each source in turn; `Filling` says what is left to put.
 use Prim.Native.Nat.{◌-◌, ◌%◌}
 use mathlib.Core.Path.{◌≡◌}
 use Rattle.datagram.specs.Datagram.{source_items}
 use Rattle.rtcp.proofs.Laws.Rows.{Filling}
 use Rattle.rtcp.proofs.rows.fill_sources.Given as goal
 
-abbrev pub invariant-loop-k : goal.invariant-loop-k
-invariant-loop-k l =
-    ((l.stop - l.k) % 4 ≡ 0) × Filling l.initial.rows l.at (source_items l.d l.stop l.from) l.rows l.cell (source_items l.d l.stop l.k)
-
-abbrev pub decreases-loop-k : goal.decreases-loop-k
-decreases-loop-k l =
-    l.stop - l.k
+abbrev pub invariant-loop-place : goal.invariant-loop-place
+invariant-loop-place l =
+    ((l.stop - l.place) % 4 ≡ 0)
+    × Filling l.initial.rows l.at (source_items l.d l.stop l.from) l.rows l.cell (source_items l.d l.stop l.place)

@@ -1,9 +1,0 @@
--- The first packet, and then the end.
-use borrow.Author.Tests.{eq-eqb, ne_eqb}
-use Rattle.packet_checks.proofs.padding.is_misplaced.Goals as goal
-
-pub returns-then-p-eq0 : goal.returns-then-p-eq0
-returns-then-p-eq0 c = rw (eq-eqb _ 0 c.if-p-eq0.true)
-
-pub returns : goal.returns
-returns c = rw (ne_eqb _ 0 c.if-p-eq0.false)
