@@ -126,7 +126,7 @@ papers_hold = (
                                 (
                                   (refl, refl, refl, refl, refl, refl),
                                   (
-                                    (refl, refl, refl, refl),
+                                    (refl, refl, (refl, refl), (refl, refl)),
                                     (
                                       (refl, refl, refl, refl, refl, refl, either_order (refl, (refl, tt))),
                                       (
@@ -141,7 +141,19 @@ papers_hold = (
                                                 (refl, refl),
                                                 (
                                                   (refl, refl, refl, refl, refl),
-                                                  ((refl, refl, refl, refl, refl, refl, refl, refl), tt),
+                                                  (
+                                                    (
+                                                      (refl, refl),
+                                                      (refl, refl),
+                                                      (refl, refl),
+                                                      (refl, refl),
+                                                      (refl, refl),
+                                                      (refl, refl),
+                                                      (refl, refl),
+                                                      (refl, refl),
+                                                    ),
+                                                    tt,
+                                                  ),
                                                 ),
                                               ),
                                             ),

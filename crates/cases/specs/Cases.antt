@@ -4,6 +4,7 @@ use Rattle.std.specs.Prelude.{ℕ, zero, suc, ◌+◌, ◌-◌, ◌*◌, ◌^◌
 use Rattle.std.specs.Prelude.{Result, Ok, Err, true, Bool}
 use Rattle.register.specs.declared.Target.{Target}
 use Rattle.refusals.specs.declared.RefusalNumber.{RefusalNumber}
+use Rattle.refusals.specs.Refusals.{IsRefused}
 use Rattle.buffer.specs.Buffer.{buffer}
 use Rattle.idms.specs.declared.Report.{Report}
 use Rattle.idms.specs.declared.Settings.{Settings}
@@ -352,8 +353,8 @@ E7Example =
     (replayed example_recording (replicate 7 99)
     ≡ Ok (record { entries = 2; choice = target 20 (seconds 998) 8820000 (seconds 998 + 0xC0000000) 2 }))
     × (replayed_rows example_recording (replicate 7 99) ≡ 1 ∷ 1 ∷ 0 ∷ 1 ∷ 1 ∷ 0 ∷ 99 ∷ [])
-    × (replayed (take 175 example_recording) (replicate 7 99) ≡ Err RefusalNumber.BadLayout)
-    × (replayed example_recording (replicate 5 99) ≡ Err RefusalNumber.ShortBuffer)
+    × IsRefused (replayed (take 175 example_recording) (replicate 7 99)) RefusalNumber.BadLayout 25
+    × IsRefused (replayed example_recording (replicate 5 99)) RefusalNumber.ShortBuffer 10
 
 -- document 02, E8: the reports of P1 and P2 in either order are accepted; their places differ, and all else agrees
 abbrev pub E8EitherOrder : Type 0
@@ -439,14 +440,14 @@ E9Limits =
 -- each refusal, with the checks behind it failing too: 11, 20, 13, 15, 16 and 17
 abbrev pub E9Refusals : Type 0
 E9Refusals =
-    (verdict_on (opened opening).table (packet_of 43 0 0 0) reading 1966081 ≡ Err RefusalNumber.OutOfRange)
-    × (verdict_on (opened opening).table (packet_of 43 0 0 0) reading 1966080 ≡ Err RefusalNumber.NoneCounted)
-    × (verdict_with (packet_of 43 0 0 0) 0 ≡ Err RefusalNumber.OtherStream)
-    × (verdict_with (packet_of 42 0 0 0) 0 ≡ Err RefusalNumber.ReceivedFar)
-    × (verdict_with (packet_of 42 (seconds 998) 0 0) 0 ≡ Err RefusalNumber.RtpAged)
-    × (verdict_with (packet_of 42 (seconds 998) 8820000 0) 0 ≡ Err RefusalNumber.BadlyPresented)
-    × (verdict_with (packet_at 0) 0 ≡ Err RefusalNumber.BadlyPresented)
-    × (verdict_with (packet_at (30 * 2 ^ 32 + 1)) 0 ≡ Err RefusalNumber.BadlyPresented)
+    IsRefused (verdict_on (opened opening).table (packet_of 43 0 0 0) reading 1966081) RefusalNumber.OutOfRange 11
+    × IsRefused (verdict_on (opened opening).table (packet_of 43 0 0 0) reading 1966080) RefusalNumber.NoneCounted 20
+    × IsRefused (verdict_with (packet_of 43 0 0 0) 0) RefusalNumber.OtherStream 13
+    × IsRefused (verdict_with (packet_of 42 0 0 0) 0) RefusalNumber.ReceivedFar 15
+    × IsRefused (verdict_with (packet_of 42 (seconds 998) 0 0) 0) RefusalNumber.RtpAged 16
+    × IsRefused (verdict_with (packet_of 42 (seconds 998) 8820000 0) 0) RefusalNumber.BadlyPresented 17
+    × IsRefused (verdict_with (packet_at 0) 0) RefusalNumber.BadlyPresented 17
+    × IsRefused (verdict_with (packet_at (30 * 2 ^ 32 + 1)) 0) RefusalNumber.BadlyPresented 17
 
 -- all of them
 unfoldable pub papers : List (Type 0)

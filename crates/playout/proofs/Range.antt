@@ -12,8 +12,7 @@ use mir.Val.{SFits}
 use Rattle.integers.proofs.Laws.{leb-same, lt_z_not_le_z, sub_ℕ_below, sub_ℕ_above, le_z-sub_ℕ, sub_ℕ-add}
 use Rattle.playout.specs.declared.PlayoutClock.{PlayoutClock}
 use Rattle.refusals.specs.declared.RefusalNumber.TheVariants.{BadStep, OutsideRange}
-use Rattle.refusals.specs.Refusals.{answer_number}
-use Rattle.std.specs.Prelude.{Err}
+use Rattle.refusals.specs.Refusals.{IsRefused, answer_number}
 use Rattle.playout.specs.PlayoutClock.{ClockCall, is_bad_step, is_outside, clock_checks, clock_answer, lesser, towards}
 
 abbrev pub at : ℕ → ℤ
@@ -88,19 +87,21 @@ clock_at a g s = record { current = at a; target = at g; step = pos s }
 
 -- ---- the checks in turn
 
-pub number_step : (c : PlayoutClock) → is_bad_step c.step ≡ true → clock_checks c ≡ Err BadStep
+pub number_step : (c : PlayoutClock) → is_bad_step c.step ≡ true → IsRefused (clock_checks c) BadStep 26
 unfolding clock_checks
-number_step c h = rw h refl
+number_step c h = rw h (refl, refl)
 
-pub number_current : (c : PlayoutClock) → is_bad_step c.step ≡ false → is_outside c.current ≡ true → clock_checks c ≡ Err OutsideRange
+pub number_current :
+    (c : PlayoutClock) → is_bad_step c.step ≡ false → is_outside c.current ≡ true →
+    IsRefused (clock_checks c) OutsideRange 27
 unfolding clock_checks
-number_current c h k = rw (h, k) refl
+number_current c h k = rw (h, k) (refl, refl)
 
 pub number-target :
     (c : PlayoutClock) → is_bad_step c.step ≡ false → is_outside c.current ≡ false → is_outside c.target ≡ true →
-    clock_checks c ≡ Err OutsideRange
+    IsRefused (clock_checks c) OutsideRange 27
 unfolding clock_checks
-number-target c h k l = rw (h, k, l) refl
+number-target c h k l = rw (h, k, l) (refl, refl)
 
 -- ---- a record within the range
 
@@ -130,9 +131,9 @@ taken c e = go (is_bad_step c.step) refl (is_outside c.current) refl (is_outside
     go :
         (p : Bool) → is_bad_step c.step ≡ p → (q : Bool) → is_outside c.current ≡ q →
         (r : Bool) → is_outside c.target ≡ r → Taken c
-    go true h q k r l = absurd (clash 25 (ap answer_number (number_step c h)) e)
-    go false h true k r l = absurd (clash 26 (ap answer_number (number_current c h k)) e)
-    go false h false k true l = absurd (clash 26 (ap answer_number (number-target c h k l)) e)
+    go true h q k r l = absurd (clash 25 (ap answer_number (number_step c h).0) e)
+    go false h true k r l = absurd (clash 26 (ap answer_number (number_current c h k).0) e)
+    go false h false k true l = absurd (clash 26 (ap answer_number (number-target c h k l).0) e)
     go false h false k false l =
         let x = offset_at c.current k in
         let y = offset_at c.target l in

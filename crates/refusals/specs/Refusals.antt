@@ -1,6 +1,6 @@
 -- The refusal numbers (document 01, "Refusal numbers"; from 21 on, and of settings, document 02), each once for all
 -- definitions. The code has them as the variants of an enum, under the same names (src/lib.rt). There is no number 8.
-use Rattle.std.specs.Prelude.{ℕ, Result, Ok, Err}
+use Rattle.std.specs.Prelude.{ℕ, ◌≡◌, Result, Ok, Err}
 use Rattle.refusals.specs.declared.RefusalNumber.{RefusalNumber}
 
 -- datagram length is 0, not a multiple of 4, or over 2,048
@@ -137,6 +137,10 @@ refusal_number RefusalNumber.ShortAnswers = short_answers
 refusal_number RefusalNumber.BadLayout = bad_layout
 refusal_number RefusalNumber.BadStep = bad_step
 refusal_number RefusalNumber.OutsideRange = outside_range
+
+-- an answer is this refusal, and the refusal has this number
+abbrev pub IsRefused : {A : Type 0} → Result A RefusalNumber → RefusalNumber → ℕ → Type 0
+IsRefused answer refused number = (answer ≡ Err refused) × (refusal_number refused ≡ number)
 
 -- what a call is answered: its refusal's number, or 0 that there is none
 abbrev pub answer_number : Result Unit RefusalNumber → ℕ

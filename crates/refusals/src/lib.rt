@@ -2,7 +2,7 @@
 // definitions give each its number (specs/Refusals.antt). There is no number 8.
 #![tactic(auto)]
 
-ghost use Rattle.std.specs.Prelude.{◌≡◌};
+ghost use Rattle.std.specs.Prelude.{◌≡◌, Some, decimal};
 ghost use Rattle.refusals.specs.Refusals.{refusal_number, answer_number};
 
 use std::fmt;
@@ -99,7 +99,10 @@ impl RefusalNumber {
     }
 }
 
+// Prints its number, as the `u64` prints.
 impl fmt::Display for RefusalNumber {
+    ghost output = { λ refused. Some (decimal (refusal_number refused)) };
+
     fn fmt<W: fmt::Write>(&self, f: &mut fmt::Formatter<W>) -> fmt::Result {
         write!(f, "{}", self.number())
     }

@@ -4,8 +4,9 @@ use Prim.Native.Nat.{ℕ, ◌+◌, ◌*◌, ◌^◌}
 use mathlib.Core.List.{List, [], ◌∷◌}
 use mathlib.Core.Path.{◌≡◌, refl}
 use lib.IntN.{pos}
-use Rattle.std.specs.Prelude.{Result, Ok, Err}
+use Rattle.std.specs.Prelude.{Result, Ok}
 use Rattle.refusals.specs.declared.RefusalNumber.{RefusalNumber}
+use Rattle.refusals.specs.Refusals.{IsRefused}
 use Rattle.times.specs.Times.{difference_mod, step, unwrapped, expanded, delay}
 use Rattle.origin.specs.declared.Origin.{Origin}
 use Rattle.origin.specs.Origins.{same_bytes, same_origin}
@@ -136,9 +137,26 @@ cases :
     × (after opening (ten ∷ twenty ∷ []) (Call.sweep (later 0)) ≡ ten ∷ twenty ∷ [])
     × (after opening (ten ∷ twenty ∷ []) (Call.sweep (later 1)) ≡ ten ∷ [])
     -- 20 where no row is fresh, and without rows
-    × (choice opening (later (seconds 10)) (ten ∷ twenty ∷ []) ≡ Err RefusalNumber.NoneCounted)
-    × (choice opening reading [] ≡ Err RefusalNumber.NoneCounted)
+    × IsRefused (choice opening (later (seconds 10)) (ten ∷ twenty ∷ [])) RefusalNumber.NoneCounted 20
+    × IsRefused (choice opening reading []) RefusalNumber.NoneCounted 20
 unfolding filter any renewed report_checks farewell_checks answer after answers after_all lateness precedes_all choice
     same_bytes same_origin difference_mod step unwrapped expanded delay
-cases =
-    (refl, refl, refl, refl, refl, refl, refl, refl, refl, refl, refl, refl, refl, refl, refl, refl, refl)
+cases = (
+  refl,
+  refl,
+  refl,
+  refl,
+  refl,
+  refl,
+  refl,
+  refl,
+  refl,
+  refl,
+  refl,
+  refl,
+  refl,
+  refl,
+  refl,
+  (refl, refl),
+  (refl, refl),
+)

@@ -1,7 +1,8 @@
 -- The example of RFC 7272, section 10, and the ends of document 02's ranges (E1), computed from the definitions.
 use Prim.Native.Nat.{ℕ}
-use Rattle.std.specs.Prelude.{Ok, Err}
+use Rattle.std.specs.Prelude.{Ok}
 use Rattle.refusals.specs.declared.RefusalNumber.{RefusalNumber}
+use Rattle.refusals.specs.Refusals.{IsRefused}
 use mathlib.Core.List.{List, []}
 use mathlib.Core.Path.{◌≡◌, refl}
 use Rattle.buffer.specs.Buffer.{written}
@@ -29,22 +30,24 @@ pub zeros-read : group_in (ascii "a=rtcp-idms:sync-group=0000000042\r\n") ≡ Ok
 unfolding is_digit are_digits value_of starts_with keeps_grammar group_in
 zeros-read = refl
 
-pub reserved_refused : group_in (ascii "a=rtcp-idms:sync-group=4294967295\r\n") ≡ Err RefusalNumber.BadGroup
+pub reserved_refused : IsRefused (group_in (ascii "a=rtcp-idms:sync-group=4294967295\r\n")) RefusalNumber.BadGroup 22
 unfolding is_digit are_digits value_of starts_with keeps_grammar group_in
-reserved_refused = refl
+reserved_refused = (refl, refl)
 
-pub eleven_zeros_refused : group_in (ascii "a=rtcp-idms:sync-group=00000000000\r\n") ≡ Err RefusalNumber.BadGroup
+pub eleven_zeros_refused :
+    IsRefused (group_in (ascii "a=rtcp-idms:sync-group=00000000000\r\n")) RefusalNumber.BadGroup 22
 unfolding is_digit are_digits value_of starts_with keeps_grammar group_in
-eleven_zeros_refused = refl
+eleven_zeros_refused = (refl, refl)
 
-pub line_feed_refused : group_in (ascii "a=rtcp-idms:sync-group=42\n") ≡ Err RefusalNumber.BadLine
+pub line_feed_refused : IsRefused (group_in (ascii "a=rtcp-idms:sync-group=42\n")) RefusalNumber.BadLine 21
 unfolding is_digit are_digits value_of starts_with keeps_grammar group_in
-line_feed_refused = refl
+line_feed_refused = (refl, refl)
 
-pub nothing_refused : group_in [] ≡ Err RefusalNumber.BadLine
+pub nothing_refused : IsRefused (group_in []) RefusalNumber.BadLine 21
 unfolding starts_with keeps_grammar group_in
-nothing_refused = refl
+nothing_refused = (refl, refl)
 
 -- the writer, whatever the buffer
-pub reserved_unwritten : (buf : List ℕ) → written (group_message 4294967295) buf ≡ Err RefusalNumber.BadGroup
-reserved_unwritten buf = refl
+pub reserved_unwritten :
+    (buf : List ℕ) → IsRefused (written (group_message 4294967295) buf) RefusalNumber.BadGroup 22
+reserved_unwritten buf = (refl, refl)
