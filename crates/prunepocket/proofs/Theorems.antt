@@ -45,11 +45,13 @@ use Rattle.table.specs.Members.{opening_of, records_in}
 use Rattle.table.specs.Choose.{choice_of}
 use Rattle.table.specs.SettingsCheck.{verdict_on}
 use Rattle.intake.specs.Datagrams.{calls_in, calls_answered, answered_unless, datagram_answered}
+use Rattle.settings_target.proofs.Theorems.{every_target}
 use Rattle.prunepocket.specs.Answers.{count_answer, cell_answer, field_answer}
 use Rattle.prunepocket.specs.Messages.{report_message_with_p, write_answer}
 use Rattle.prunepocket.specs.SiteFile.{group_answer}
 use Rattle.prunepocket.specs.Following.{followed_of}
 use Rattle.prunepocket.specs.SettingsCheck.{settings_answered}
+use Rattle.prunepocket.specs.LoudspeakerPromise.{EveryLateness}
 
 -- ---- the calls that read
 
@@ -238,6 +240,12 @@ unfolding verdict_on
 check_settings_accepted t s at slack =
     rw (settings-number (verdict (opening_of t) at (marked_at t.held (records_in t)) s slack) t)
     (verdict-accepted (opening_of t) at (marked_at t.held (records_in t)) s slack)
+
+-- ---- a settings packet at a loudspeaker
+
+-- prunepocket_target_lateness
+pub every_lateness : EveryLateness
+every_lateness = every_target
 
 -- ---- the numbers of refusals: no two variants of the code's enum have the same
 

@@ -5,3 +5,4 @@ pub mod Following
 pub mod SettingsCheck
 pub mod Recordings
 pub mod Loudspeaker
+pub mod LoudspeakerPromise

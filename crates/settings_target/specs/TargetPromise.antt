@@ -5,7 +5,7 @@
 -- `BadOpening`, `Line` and `Means`, and document 01's lateness of three times, `times_lateness`, with `delay_between` and
 -- `lateness`; of `playout` what OnTarget names, with its `BadStep` and `Outside`. Nothing of TargetLateness:
 -- `number_answered` and `late_answered` of `lateness_asked` stand for the number and the lateness that
--- `prunepocket_target_lateness` answers.
+-- `target_lateness` answers. Of `prunepocket_target_lateness` prunepocket says the same (LoudspeakerPromise).
 use Rattle.std.specs.Prelude.{ℕ, ◌*◌, ◌^◌, ◌<◌, List, [], ◌∷◌, ◌⊎◌, ◌≡◌, ℤ, pos}
 use Rattle.refusals.specs.Refusals.{bad_opening, other_stream, received_far, rtp_aged, badly_presented}
 use Rattle.idms.specs.declared.Settings.{Settings}
