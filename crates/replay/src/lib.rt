@@ -13,7 +13,7 @@ ghost use Rattle.replay.specs.Replay.{entry_row_length, entry_rows, choice_at_en
 use idms::Item;
 pub use layout::{ENTRY_LIMIT, RECORDING_LIMIT};
 use layout::{entry_at, entry_place, is_bad_layout, read32};
-use refusals::RefusalNumber;
+use refusals::{RefusalNumber, answer_number};
 use register::{Opening, Target};
 use steps::{count_entry, first_row, next_of, put_row, row_after};
 use table::{
@@ -71,20 +71,22 @@ fn run_entries(t: Table, f: &[u8], n: usize, rows: &mut [u64]) -> Result<Target,
                             record,
                             entry.at,
                         );
-                        let filing = report_filing(table.held, found, there, record, checked);
+                        let number = answer_number(checked);
+                        let filing = report_filing(table.held, found, there, record, number);
                         sources[filing.place] = filing.member.record.source;
                         table.members[filing.place] = filing.member;
                         table.held = filing.held;
-                        row = row_after(row, filing.number);
+                        row = row_after(row, number);
                     }
                     Item::Farewell(source) => {
                         let found = place_among(table.held, &sources, source);
                         let there = table.members[found % 64];
                         let checked = farewell_number_at(found, there, origin);
-                        let filing = farewell_filing(table.held, found, there, checked);
+                        let number = answer_number(checked);
+                        let filing = farewell_filing(table.held, found, there, number);
                         table.members[filing.place] = filing.member;
                         table.held = filing.held;
-                        row = row_after(row, filing.number);
+                        row = row_after(row, number);
                     }
                     Item::Settings(_) => {}
                 }

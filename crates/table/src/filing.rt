@@ -10,7 +10,7 @@ use crate::tally::raised;
 use checks::report_number;
 use origin::Origin;
 use places::{lowest_free, with_place, without_place};
-use refusals::{RefusalNumber, answer_number};
+use refusals::RefusalNumber;
 use register::{Member, Opening, Reading, Record};
 
 // A call's number, which goes into C's lists as it is; the place and the member that stands there afterwards, which
@@ -30,19 +30,21 @@ fn has_other_origin(there: Member, origin: Origin) -> bool
     there.record.origin != origin
 }
 
-// The member at a source number's place after a report that got this answer, or after a farewell that was refused, with
+// The member at a source number's place after a report that got this number, or after a farewell that was refused, with
 // its own record: 14 is tallied there.
-fn member_after(there: Member, x: Record, checked: Result<(), RefusalNumber>) -> Member
-    ensures { result ≡ member_after there x (answer_number checked) }
+fn member_after(there: Member, x: Record, number: u64) -> Member
+    ensures { result ≡ member_after there x number }
 {
-    match checked {
-        Ok(()) => Member { record: x, ..there },
-        Err(RefusalNumber::OtherOrigin) => Member {
+    if number == RefusalNumber::OtherOrigin.number() {
+        return Member {
             tally: raised(there.tally),
             ..there
-        },
-        Err(_) => there,
+        };
     }
+    if number != 0 {
+        return there;
+    }
+    Member { record: x, ..there }
 }
 
 // What a report is answered, by where its source number's member stands, and who stands there. The place is 64 where it
@@ -64,28 +66,22 @@ pub fn report_number_at(
     report_number(opening, x, at, elsewhere, false)
 }
 
-// What a report does that got this answer, by the same place, and who stands there or else at the first place. With the
-// answer that `report_number_at` gives, it is at one of the 64 places.
-pub fn report_filing(
-    held: u64,
-    place: usize,
-    there: Member,
-    x: Record,
-    checked: Result<(), RefusalNumber>,
-) -> Filing
-    ensures { result ≡ report_filing held place there x (answer_number checked) }
+// What a report does that got this number, by the same place, and who stands there or else at the first place. With the
+// number of what `report_number_at` answers, it is at one of the 64 places.
+pub fn report_filing(held: u64, place: usize, there: Member, x: Record, number: u64) -> Filing
+    ensures { result ≡ report_filing held place there x number }
 {
     if place < 64 {
         return Filing {
-            number: answer_number(checked),
+            number,
             place,
             held,
-            member: member_after(there, x, checked),
+            member: member_after(there, x, number),
         };
     }
-    if let Err(refused) = checked {
+    if number != 0 {
         return Filing {
-            number: refused.number(),
+            number,
             place: 0,
             held,
             member: there,
@@ -117,29 +113,24 @@ pub fn farewell_number_at(place: usize, there: Member, origin: Origin) -> Result
     Ok(())
 }
 
-// What a farewell does that got this answer: a place is held no more, or 14 is tallied there.
-pub fn farewell_filing(
-    held: u64,
-    place: usize,
-    there: Member,
-    checked: Result<(), RefusalNumber>,
-) -> Filing
-    ensures { result ≡ farewell_filing held place there (answer_number checked) }
+// What a farewell does that got this number: a place is held no more, or 14 is tallied there.
+pub fn farewell_filing(held: u64, place: usize, there: Member, number: u64) -> Filing
+    ensures { result ≡ farewell_filing held place there number }
 {
     if 64 <= place {
         return Filing {
-            number: answer_number(checked),
+            number,
             place: 0,
             held,
             member: there,
         };
     }
-    if let Err(refused) = checked {
+    if number != 0 {
         return Filing {
-            number: refused.number(),
+            number,
             place,
             held,
-            member: member_after(there, there.record, checked),
+            member: member_after(there, there.record, number),
         };
     }
     Filing {

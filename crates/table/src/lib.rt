@@ -23,7 +23,7 @@ pub use filing::{farewell_filing, farewell_number_at, report_filing, report_numb
 use idms::{Item, Report, Settings};
 use origin::Origin;
 use places::{count_held, is_held};
-use refusals::RefusalNumber;
+use refusals::{RefusalNumber, answer_number};
 use register::{Member, Opening, Reading, Record, ReportFields, Target};
 use search::is_held_by;
 pub use search::place_among;
@@ -160,7 +160,7 @@ impl Table {
         // Where no member was found, the first place.
         let there = self.members[place % 64];
         let checked = report_number_at(self.opening, self.held, place, there, x, at);
-        report_filing(self.held, place, there, x, checked)
+        report_filing(self.held, place, there, x, answer_number(checked))
     }
 
     // A report under its origin, at the sender's reading.
@@ -183,7 +183,7 @@ impl Table {
         let place = self.place_of(source);
         let there = self.members[place % 64];
         let checked = farewell_number_at(place, there, origin);
-        let f = farewell_filing(self.held, place, there, checked);
+        let f = farewell_filing(self.held, place, there, answer_number(checked));
         self.store(f);
         Answered {
             number: f.number,

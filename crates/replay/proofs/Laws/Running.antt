@@ -31,7 +31,7 @@ use Rattle.table.specs.Choose.{choice_of}
 use Rattle.table.specs.Filing.{report_number_at, report_filing, farewell_number_at, farewell_filing}
 use Rattle.table.specs.Filing.{filing_of, with_filing}
 use Rattle.table.specs.Intake.{record_of}
-use Rattle.table.proofs.Laws.Filing.{filing_answers, filing_searched, farewell_filing_number, farewell_stored}
+use Rattle.table.proofs.Laws.Filing.{filing_answers, filing_searched, filing_number, farewell_stored}
 use Rattle.table.proofs.Laws.Search.{place_among_lem, sources_set, sources_long, sources_after_farewell}
 use Rattle.intake.specs.Datagrams.{calls_in}
 use Rattle.replay.specs.declared.layout.Listed.{Listed}
@@ -225,11 +225,13 @@ module _
 
         pub running_report :
             (report : Report) (row₁ : Row) → x.item ≡ Item.Report report → r ≡ record_of report entry.origin
-            → row₁ ≡ row_after row filing.number
+            → row₁ ≡ row_after row number
             → Running f n t₀ rows₀ (with_filing t filing)
             (set sources filing.place filing.member.«record».source) rows i entry (left - 1) next
             row₁
         running_report report row₁ is e w =
+            let same : filing.number ≡ number =
+            ap (λ (h : Filing). h.number) filed ∙ filing_number t.held found there r number in
             running_call (Call.report r entry.at) (record { number = filing.number; table = with_filing t filing }) _
             row₁
             (report-left entry.origin entry.at (datagram_of f entry) left cursor x next items report is
@@ -239,7 +241,7 @@ module _
             (ap (λ (those : List ℕ). set those filing.place filing.member.«record».source) l.sources_are
             ∙ sym (sources_set t.members filing.place filing.member))
             (length-set sources filing.place filing.member.«record».source ∙ l.many)
-            w
+            (w ∙ ap (row_after row) (sym same))
 
       module _
           (source : ℕ) (place : found ≡ place_among source t.held sources)
@@ -257,18 +259,16 @@ module _
         farewell_within = stored.1
 
         pub running_farewell :
-            (row₁ : Row) → x.item ≡ Item.Farewell source → row₁ ≡ row_after row filing.number
+            (row₁ : Row) → x.item ≡ Item.Farewell source → row₁ ≡ row_after row number
             → Running f n t₀ rows₀ (with_filing t filing) sources rows i entry (left - 1) next row₁
         running_farewell row₁ is w =
-            let same : filing.number ≡ number =
-            ap (λ (h : Filing). h.number) filed ∙ farewell_filing_number t.held found there number in
             running_call (Call.farewell source entry.origin) called sources row₁
             (farewell-left entry.origin entry.at (datagram_of f entry) left cursor x next items source is)
             stored.0
             (l.sources_are
             ∙ sym (sources_after_farewell t source entry.origin)
             ∙ ap (λ (a : Answered). sources_of a.table.members) (sym stored.0))
-            l.many (w ∙ ap (row_after row) same)
+            l.many w
 
     pub running_settings :
         (settings : Settings) → x.item ≡ Item.Settings settings

@@ -44,26 +44,30 @@ offset_bounds-sources-filing c = record {
   fits = omega (
     arith,
     report_within c.loop-step.invariant _ _ _ c.next_of-step.ensures c.in-Some.is _ _ _ _ refl _
-        c.place_among-found.ensures c.report_number_at-checked.ensures c.report_filing-filing.ensures,
+        c.place_among-found.ensures (c.answer_number-number.ensures ∙ c.report_number_at-checked.ensures)
+        c.report_filing-filing.ensures,
   );
 }
 
 pub bounds-sources-filing : goal.bounds-sources-filing
 bounds-sources-filing c = report_within c.loop-step.invariant _ _ _ c.next_of-step.ensures c.in-Some.is _ _ _ _ refl _
-    c.place_among-found.ensures c.report_number_at-checked.ensures c.report_filing-filing.ensures
+    c.place_among-found.ensures (c.answer_number-number.ensures ∙ c.report_number_at-checked.ensures)
+    c.report_filing-filing.ensures
 
 pub offset_bounds-table-filing : goal.offset_bounds-table-filing
 offset_bounds-table-filing c = record {
   fits = omega (
     arith,
     report_within c.loop-step.invariant _ _ _ c.next_of-step.ensures c.in-Some.is _ _ _ _ refl _
-        c.place_among-found.ensures c.report_number_at-checked.ensures c.report_filing-filing.ensures,
+        c.place_among-found.ensures (c.answer_number-number.ensures ∙ c.report_number_at-checked.ensures)
+        c.report_filing-filing.ensures,
   );
 }
 
 pub bounds-table-filing : goal.bounds-table-filing
 bounds-table-filing c = report_within c.loop-step.invariant _ _ _ c.next_of-step.ensures c.in-Some.is _ _ _ _ refl _
-    c.place_among-found.ensures c.report_number_at-checked.ensures c.report_filing-filing.ensures
+    c.place_among-found.ensures (c.answer_number-number.ensures ∙ c.report_number_at-checked.ensures)
+    c.report_filing-filing.ensures
 
 pub row_after-row-requires : goal.row_after-row-requires
 row_after-row-requires c =
@@ -78,7 +82,7 @@ loop-step-preserved-in-Report c =
     rw c.in-Some.is
     (running_report c.loop-step.invariant _ _ _ c.next_of-step.ensures
     c.in-Some.is _ _ _ _ refl _
-    c.place_among-found.ensures c.report_number_at-checked.ensures
+    c.place_among-found.ensures (c.answer_number-number.ensures ∙ c.report_number_at-checked.ensures)
     c.report_filing-filing.ensures _ _ c.in-Report.is c.record_of-record.ensures
     c.row_after-row.ensures)
 
@@ -95,7 +99,8 @@ loop-step-preserved-in-Farewell c =
     rw c.in-Some.is
     (running_farewell c.loop-step.invariant _ _ _ c.next_of-step.ensures
     c.in-Some.is _ _ _ _ refl _
-    c.place_among-found-in-Farewell.ensures c.farewell_number_at-checked.ensures
+    c.place_among-found-in-Farewell.ensures
+    (c.answer_number-number-in-Farewell.ensures ∙ c.farewell_number_at-checked.ensures)
     c.farewell_filing-filing.ensures _ c.in-Farewell.is c.row_after-row-in-Farewell.ensures)
 
 pub loop-step-smaller-in-Settings : goal.loop-step-smaller-in-Settings

@@ -21,7 +21,7 @@ filed c =
     let long : length t.members ≡ 64 = omega (arith, c.well_formed) in
     let stored : _ =
     farewell_stored t c.args.source _ _ long c.place_of-place.ensures refl c.args.origin _ _
-    c.farewell_number_at-checked.ensures c.farewell_filing-f.ensures in
+    (c.answer_number.ensures ∙ c.farewell_number_at-checked.ensures) c.farewell_filing-f.ensures in
     let number : _ =
     ap (λ (f : Filing). f.number) c.farewell_filing-f.ensures ∙ farewell_filing_number t.held _ _ _ in
     (rw number stored.0, stored.1)
