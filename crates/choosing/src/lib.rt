@@ -30,9 +30,9 @@ pub struct Marks {
 
 // A member that a word marks: its place, with its lateness and its number.
 #[derive(Clone, Copy)]
-pub(crate) struct Candidate {
+struct Candidate {
     place: usize,
-    pub(crate) late: u128,
+    late: u128,
     source: u32,
 }
 
@@ -91,7 +91,7 @@ fn delay_of(row: Record) -> u64
 }
 
 // A member's lateness and 30 s more.
-fn member_lateness(row: Record, rate: u32, at: Reading) -> u128
+pub(crate) fn member_lateness(row: Record, rate: u32, at: Reading) -> u128
     ensures { result ≡ biased_of rate at row }
 {
     let delay = delay_of(row);
@@ -140,12 +140,7 @@ fn latest_next(
 }
 
 // The latest of the members that a word marks.
-pub(crate) fn latest_marked(
-    word: u64,
-    members: &[Member; 64],
-    rate: u32,
-    at: Reading,
-) -> Option<Candidate>
+fn latest_marked(word: u64, members: &[Member; 64], rate: u32, at: Reading) -> Option<Candidate>
     ensures { IsLatest rate at word (records_of members.now) result }
 {
     let mut latest = None;

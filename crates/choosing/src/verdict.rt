@@ -1,26 +1,46 @@
 // Whether a settings packet suits the counted members (document 02, E9): it is compared with the greatest lateness.
-ghost use Rattle.std.specs.Prelude.{◌&&◌, ◌≡◌, ◌+◌, ◌*◌, ◌^◌, ◌≤◌, leb};
+ghost use Rattle.std.specs.Prelude.{cond, ◌&&◌, ◌||◌, ◌≡◌, ◌+◌, ◌*◌, ◌^◌, ◌≤◌, leb};
 ghost use Rattle.times.specs.Times.{settings_delay};
+ghost use Rattle.places.specs.Places.{is_free};
 ghost use Rattle.register.specs.SettingsCheck.{verdict};
 ghost use Rattle.register.specs.Tallies.{records_of};
 ghost use Rattle.choosing.specs.Marked.{marked_at};
 ghost use Rattle.choosing.specs.Lateness.{biased_of, biased_settings, greatest};
 
-use crate::{counted_word, late_by, latest_marked, marks_at};
+use crate::{counted_word, late_by, marks_at, member_lateness};
 use checks::settings_number;
 use idms::Settings;
 use refusals::RefusalNumber;
 use register::{Member, Opening, Reading};
 use times::{ntp_age, rtp_age, settings_delay};
 
-// The greatest lateness and 30 s more of the members that a word marks, or 0 where it marks none.
+// The greatest lateness and 30 s more, after a member that a word's lowest bit marks or not.
+fn greatest_next(word: u64, most: u128, member: &Member, rate: u32, at: Reading) -> u128
+    ensures { result
+        ≡ cond (is_free word || leb (biased_of rate at member.now.«record») most) most
+        (biased_of rate at member.now.«record») }
+{
+    if word % 2 == 0 {
+        return most;
+    }
+    let late = member_lateness(member.record, rate, at);
+    if late <= most {
+        return most;
+    }
+    late
+}
+
+// That of the members that a word marks, or 0 where it marks none.
 fn greatest_lateness(word: u64, members: &[Member; 64], rate: u32, at: Reading) -> u128
     ensures { result ≡ greatest (biased_of rate at) 0 (marked_at word (records_of members.now)) }
 {
-    match latest_marked(word, members, rate, at) {
-        Some(latest) => latest.late,
-        None => 0,
+    let mut most = 0;
+    let mut rest = word;
+    for member in members.iter() {
+        most = greatest_next(rest, most, member, rate, at);
+        rest /= 2;
     }
+    most
 }
 
 // Whether a lateness is at least the greatest, and exceeds it by no more than a slack allows: rate × slack × 2^16.

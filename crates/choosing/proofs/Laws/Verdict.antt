@@ -1,89 +1,78 @@
 -- Whether a settings packet suits: compared with the greatest biased number of the counted rows it is compared with all
 -- of them, and the biased numbers compare as the signed ones do.
-use Prim.Native.Nat.{ℕ, ◌+◌, ◌-◌, ◌*◌, ◌^◌, ◌≤◌, ◌<◌}
+use Prim.Native.Nat.{ℕ, ◌+◌, ◌-◌, ◌*◌, ◌/◌, ◌^◌, ◌≤◌, ◌<◌}
 use mathlib.Core.Bool.{Bool, true, false, not, cond, ◌&&◌, ◌||◌, or_assoc, not-not}
 use mathlib.Core.List.{[], ◌∷◌, Memᴰ}
 use mathlib.Core.Path.{◌≡◌, refl, sym, ap, ◌∙◌}
-use lib.Dec.{leb, ltb, eqb}
+use lib.Dec.{leb, eqb}
 use lib.IntN.{pos, ◌+ℤ◌}
-use lib.ListN.{length}
+use lib.ListN.{length, get_or, drop, drop_of_length-le}
 use lib.Signed.{le_z, lt_z}
 use native.Mathlib.Omega.{arith}
-use borrow.Author.Tests.{eq-eqb, not-true, le-ltb, ltb-false, leb-true, leb-false, le-leb, lt-leb}
-use Rattle.std.specs.Prelude.{Option, Some, None, Ok, Err}
+use borrow.Author.Tests.{eq-eqb, not-true, leb-true, leb-false, le-leb, lt-leb}
+use Rattle.std.specs.Prelude.{Ok, Err}
 use Rattle.refusals.specs.declared.RefusalNumber.{RefusalNumber}
+use Rattle.places.specs.Places.{is_free}
 use Rattle.register.specs.declared.Record.{Record}
 use Rattle.register.specs.declared.Reading.{Reading}
 use Rattle.idms.specs.declared.Settings.{Settings}
 use Rattle.times.specs.Times.{ntp_age, rtp_age, settings_delay}
 use Rattle.register.specs.declared.Opening.{Opening}
 use Rattle.register.specs.Register.{Rows, any}
-use Rattle.register.specs.Choosing.{counted, delay_of, lateness_of, precedes}
+use Rattle.register.specs.Choosing.{counted, delay_of, lateness_of}
 use Rattle.register.specs.SettingsCheck.{settings_checks, is_none_counted, settings_lateness, allowance, suits, verdict}
 use Rattle.register.proofs.Rows.{clash, any_cong}
 use Rattle.integers.proofs.Laws.{lt_z_not_le_z}
 use Rattle.register.proofs.Promised.{counted_member}
 use Rattle.register.proofs.SettingsCheck.{PassedChecks, passed_checks, verdict-refused, verdict-judged}
-use Rattle.choosing.specs.Latest.{latest, latest_of}
-use Rattle.choosing.specs.Marked.{marked_at}
+use Rattle.choosing.specs.Marked.{marked_at, nowhere}
 use Rattle.choosing.specs.Choose.{counted_word}
-use Rattle.choosing.specs.Lateness.{biased_of, biased_late, biased_settings, greatest}
+use Rattle.choosing.specs.Lateness.{biased_of, biased_settings, greatest}
+use Rattle.choosing.proofs.Laws.Marked.{marked_free_at, marked_held_at}
 use Rattle.choosing.proofs.Laws.Counted.{counted-rows, none-counted}
 use Rattle.choosing.proofs.Laws.Biased.{le_z-lateness, le_z_allowed, fresh_age}
 
--- ---- the greatest, and the latest
+-- ---- a step of the walk for the greatest
 
--- the greatest of rows is the latest's
-greatest-latest :
-    (number : Record → ℕ) (rows : Rows) (a : Record) →
-    number (latest (λ row. pos (number row)) a rows) ≡ greatest number (number a) rows
-unfolding latest greatest
-greatest-latest number [] a = refl
-greatest-latest number (b ∷ rows) a =
-    greatest-latest number rows (cond (precedes (λ row. pos (number row)) a b) a b)
-    ∙ ap (λ (n : ℕ). greatest number n rows)
-    (go (precedes (λ row. pos (number row)) a b) refl (leb (number b) (number a)) refl)
+-- after i places: the greatest so far, and with the rows to come the greatest of all
+pub record GreatestSoFar (rate : ℕ) (at : Reading) (word : ℕ) (ms : Rows) (most rest i : ℕ) : Type 0 where
+  pub whole :
+      greatest (biased_of rate at) most (marked_at rest (drop i ms)) ≡ greatest (biased_of rate at) 0 (marked_at word ms)
+
+pub greatest-start : {rate : ℕ} {at : Reading} {word : ℕ} {ms : Rows} → GreatestSoFar rate at word ms 0 word 0
+greatest-start = record { whole = refl }
+
+-- what the code takes for the greatest, with one row more
+abbrev greatest_next : ℕ → ℕ → ℕ → ℕ
+greatest_next word most number = cond (is_free word || leb number most) most number
+
+pub greatest-step :
+    {rate : ℕ} {at : Reading} {word : ℕ} {ms : Rows} {most rest i next : ℕ} → i < length ms →
+    GreatestSoFar rate at word ms most rest i →
+    next ≡ greatest_next rest most (biased_of rate at (get_or ms i nowhere)) →
+    GreatestSoFar rate at word ms next (rest / 2) (i + 1)
+unfolding greatest
+greatest-step {rate} {at} {word} {ms} {most} {rest} {i} {next} within so e = rw e (go (is_free rest) refl)
   where
     go :
-        (t : Bool) → precedes (λ row. pos (number row)) a b ≡ t → (u : Bool) → leb (number b) (number a) ≡ u →
-        number (cond t a b) ≡ cond u (number a) (number b)
-    go true e true q = refl
-    go true e false q = clash (rw (le-ltb (number b) (number a) (omega (arith, leb-false _ _ q)), q) at e)
-    go false e true q = go-same (ltb (number b) (number a)) refl
-      where
-        go-same : (v : Bool) → ltb (number b) (number a) ≡ v → number b ≡ number a
-        go-same true p = clash (sym (rw p at e))
-        go-same false p = omega (arith, leb-true _ _ q, ltb-false _ _ p)
-    go false e false q = refl
+        (s : Bool) → is_free rest ≡ s →
+        GreatestSoFar rate at word ms (greatest_next rest most (biased_of rate at (get_or ms i nowhere))) (rest / 2)
+        (i + 1)
+    go true p =
+        rw p
+        (record { whole = sym (ap (greatest (biased_of rate at) most) (marked_free_at rest ms i within p)) ∙ so.whole })
+    go false p =
+        rw p
+        (record { whole = sym (ap (greatest (biased_of rate at) most) (marked_held_at rest ms i within p)) ∙ so.whole })
 
--- the greatest of 0 and a number
-first_number : (n : ℕ) → n ≡ cond (leb n 0) 0 n
-first_number n = go (leb n 0) refl
-  where
-    go : (t : Bool) → leb n 0 ≡ t → n ≡ cond t 0 n
-    go true e = omega (arith, leb-true n 0 e)
-    go false e = refl
+pub greatest_end :
+    {rate : ℕ} {at : Reading} {word : ℕ} {ms : Rows} {most rest i : ℕ} → length ms ≤ i →
+    GreatestSoFar rate at word ms most rest i → most ≡ greatest (biased_of rate at) 0 (marked_at word ms)
+unfolding marked_at greatest
+greatest_end {rate} {at} {word} {ms} {most} {rest} {i} h so =
+    sym (ap (λ (l : Rows). greatest (biased_of rate at) most (marked_at rest l)) (drop_of_length-le ms h)) ∙ so.whole
 
-pub greatest_none :
-    (rate : ℕ) (at : Reading) (rows : Rows) → latest_of (biased_late rate at) rows ≡ None →
-    0 ≡ greatest (biased_of rate at) 0 rows
-unfolding latest_of greatest
-greatest_none rate at [] e = refl
-greatest_none rate at (row ∷ rows) e = grind arith
-
-pub greatest_one :
-    (rate : ℕ) (at : Reading) (rows : Rows) (row : Record) → latest_of (biased_late rate at) rows ≡ Some row →
-    biased_of rate at row ≡ greatest (biased_of rate at) 0 rows
-unfolding latest_of greatest
-greatest_one rate at [] row e = grind arith
-greatest_one rate at (a ∷ rows) row e =
-    ap number_in (sym e)
-    ∙ greatest-latest (biased_of rate at) rows a
-    ∙ ap (λ (n : ℕ). greatest (biased_of rate at) n rows) (first_number (biased_of rate at a))
-  where
-    number_in : Option Record → ℕ
-    number_in None = 0
-    number_in (Some x) = biased_of rate at x
+-- ---- what is allowed
 
 -- exceeding by no more is lying at or below the sum
 pub within_sum : (late most allowed : ℕ) → most ≤ late → leb (late - most) allowed ≡ leb late (most + allowed)
@@ -127,6 +116,14 @@ passes_greatest test rising number (row ∷ rows) most =
     sym (or_assoc (test most) (test (number row)) (any (λ r. test (number r)) rows))
     ∙ ap (λ (t : Bool). t || any (λ r. test (number r)) rows) (greater_passes test rising most (number row))
     ∙ passes_greatest test rising number rows (cond (leb (number row) most) most (number row))
+
+-- the greatest of 0 and a number
+first_number : (n : ℕ) → n ≡ cond (leb n 0) 0 n
+first_number n = go (leb n 0) refl
+  where
+    go : (t : Bool) → leb n 0 ≡ t → n ≡ cond t 0 n
+    go true e = omega (arith, leb-true n 0 e)
+    go false e = refl
 
 -- some of one row or more passes exactly where the greatest does
 any-greatest :
