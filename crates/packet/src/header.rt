@@ -59,11 +59,13 @@ pub(crate) fn known_head(d: &[u8], p: usize, bytes: usize) -> Head
     ensures { result ≡ head_of d.now p }
 {
     let count = d[p] % 32;
+    // Before the type is told apart, so that what a caller does by type follows at once.
+    let content = unpadded(d, p, bytes);
     Head {
         kind: kind_of(d[p + 1], count),
         count: usize::from(count),
         bytes,
-        content: unpadded(d, p, bytes),
+        content,
     }
 }
 

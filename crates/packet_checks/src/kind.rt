@@ -50,10 +50,10 @@ pub fn is_short(kind: PacketType, bytes: usize) -> bool
     ensures { result ≡ content_is_short kind bytes }
 {
     match kind {
-        PacketType::Sr(least)
-        | PacketType::Rr(least)
-        | PacketType::Bye(least)
-        | PacketType::Xr(least) => bytes < least,
+        PacketType::Sr(least) => bytes < least,
+        PacketType::Rr(least) => bytes < least,
+        PacketType::Bye(least) => bytes < least,
+        PacketType::Xr(least) => bytes < least,
         PacketType::Settings(exact) => bytes != exact,
         PacketType::Other => false,
     }

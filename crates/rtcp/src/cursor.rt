@@ -87,7 +87,8 @@ fn at_block(d: &[u8], sender: u32, at: usize, stop: usize, next: usize) -> Optio
     }
 }
 
-// One step of a cursor.
+// One step of a cursor. Built into `next_item`, for the reason there.
+#[inline(always)]
 fn stepped(d: &[u8], c: State) -> Option<Advance>
     ensures { result ≡ advance d.now c }
 {
@@ -101,7 +102,9 @@ fn stepped(d: &[u8], c: State) -> Option<Advance>
 // The next item of the datagram that the cursor was opened on and the cursor behind it, or the end. With another
 // datagram it gives what can be read there, which may be an item of one that is refused: not all checks are made again.
 // So it need not be told whether reduced size was agreed: what depends on that was checked when the cursor was opened,
-// or the items were counted.
+// or the items were counted. It is built into its callers, so that a loop has its cursor in registers: through memory
+// it would be read again at once, in other widths than it was written, which stalls.
+#[inline(always)]
 pub fn next_item(d: &[u8], from: Cursor) -> Option<(Placed, Cursor)>
     ensures { result ≡ next_of d.now from }
 {
