@@ -3,7 +3,6 @@ ghost use Rattle.std.specs.Prelude.{◌<◌};
 
 use crate::datagrams::{read_farewell, read_report};
 use crate::forms::Form;
-use crate::items::{item_line, items_line};
 use crate::lines::{Line, push_answer};
 use crate::scene::{Scene, first_record};
 use crate::words::{BUFFER, put_bytes};
@@ -173,23 +172,9 @@ fn take<'a>(table: Table, line: Line<'a>, d: &[u8], scene: Scene) -> Told<'a> {
     }
 }
 
-// A step on the scene's datagram: it is taken in, or its items are looked at.
-pub(crate) fn read_datagram<'a>(table: Table, line: Line<'a>, scene: Scene) -> Told<'a> {
+// A step that takes the scene's datagram in.
+pub(crate) fn take_datagram<'a>(table: Table, line: Line<'a>, scene: Scene) -> Told<'a> {
     let mut buffer = [0u8; BUFFER];
     let n = put_bytes(scene.datagram, &mut buffer);
-    let d = &buffer[..n];
-    match line.form {
-        Form::Take | Form::TakeNone | Form::TakeRefused => take(table, line, d, scene),
-        Form::Items | Form::ItemsRefused => Told {
-            table,
-            line: items_line(line, rtcp::count_items(d, scene.reduced)),
-        },
-        _ => Told {
-            table,
-            line: item_line(
-                line,
-                rtcp::item_at(d, scene.reduced, line.values[0] as usize),
-            ),
-        },
-    }
+    take(table, line, &buffer[..n], scene)
 }

@@ -84,77 +84,65 @@ impl<'a> Line<'a> {
 
 impl<'a> Matching<'a> {
     // One value more.
-    fn with(self, read: Option<(u64, &'a [u8])>) -> Option<Self> {
+    fn push(&mut self, read: Option<(u64, &'a [u8])>) -> Option<()> {
         let (value, rest) = read?;
-        let mut values = self.line.values;
-        *values.get_mut(self.count)? = value;
-        Some(Matching {
-            line: Line {
-                values,
-                ..self.line
-            },
-            count: self.count.saturating_add(1),
-            rest,
-            ..self
-        })
+        *self.line.values.get_mut(self.count)? = value;
+        self.count = self.count.saturating_add(1);
+        self.rest = rest;
+        Some(())
     }
 
-    fn with_number(self) -> Option<Self> {
+    fn read_number(&mut self) -> Option<()> {
         let (value, rest) = number(self.rest)?;
-        self.with(Some((u64::from(value), rest)))
+        self.push(Some((u64::from(value), rest)))
     }
 
-    fn with_answers(self) -> Option<Self> {
+    fn read_answers(&mut self) -> Option<()> {
         let (values, rest) = answers(self.rest)?;
-        let line = Line {
-            values,
-            ..self.line
-        };
-        Some(Matching { line, rest, ..self })
+        self.line.values = values;
+        self.rest = rest;
+        Some(())
     }
 
-    fn with_origin(self) -> Option<Self> {
+    fn read_origin(&mut self) -> Option<()> {
         let (origin, rest) = origin(self.rest, self.behind)?;
-        let line = Line {
-            origin,
-            ..self.line
-        };
-        Some(Matching { line, rest, ..self })
+        self.line.origin = origin;
+        self.rest = rest;
+        Some(())
     }
 
     // All that is left, as words of hex.
-    fn with_words(self) -> Option<Self> {
+    fn read_words(&mut self) -> Option<()> {
         if !are_words(self.rest) {
             return None;
         }
-        let line = Line {
-            text: self.rest,
-            ..self.line
-        };
-        let rest = &[];
-        Some(Matching { line, rest, ..self })
+        self.line.text = self.rest;
+        self.rest = &[];
+        Some(())
     }
 
-    fn with_quoted(self) -> Option<Self> {
+    fn read_quoted(&mut self) -> Option<()> {
         let (text, rest) = quoted(self.rest)?;
-        let line = Line { text, ..self.line };
-        Some(Matching { line, rest, ..self })
+        self.line.text = text;
+        self.rest = rest;
+        Some(())
     }
 
-    // What a character of the pattern asks for.
-    fn with_part(self, mark: u8) -> Option<Self> {
+    // What a character of the pattern asks for. It is read in place: a line is tried in each form, and most of a pattern
+    // stands for itself.
+    fn read_part(&mut self, mark: u8) -> Option<()> {
         match mark {
-            b'#' => self.with_number(),
-            b'@' => self.with(time(self.rest)),
-            b'?' => self.with(field(self.rest)),
-            b'!' => self.with(presented(self.rest)),
-            b'%' => self.with_origin(),
-            b'&' => self.with_answers(),
-            b'*' => self.with_words(),
-            b'"' => self.with_quoted(),
+            b'#' => self.read_number(),
+            b'@' => self.push(time(self.rest)),
+            b'?' => self.push(field(self.rest)),
+            b'!' => self.push(presented(self.rest)),
+            b'%' => self.read_origin(),
+            b'&' => self.read_answers(),
+            b'*' => self.read_words(),
+            b'"' => self.read_quoted(),
             _ => {
-                let rest = self.rest.strip_prefix(&[mark])?;
-                Some(Matching { rest, ..self })
+                self.rest = self.rest.strip_prefix(&[mark])?;
+                Some(())
             }
         }
     }
@@ -177,7 +165,7 @@ pub(crate) fn matched_with<'a>(step: &Step, text: &'a [u8], behind: &'a [u8]) ->
         behind,
     };
     for mark in step.pattern.as_bytes() {
-        matching = matching.with_part(*mark)?;
+        matching.read_part(*mark)?;
     }
     matching.rest.is_empty().then_some(matching.line)
 }

@@ -45,7 +45,7 @@ fn choice_line<'a>(
 }
 
 // The member at the place that a line has.
-fn place_line(line: Line<'_>, table: Table) -> Line<'_> {
+fn place_line<'a>(line: Line<'a>, table: &Table) -> Line<'a> {
     let place = line.values[0];
     let shown = table.member_at(place as usize);
     if shown.held == 0 {
@@ -59,12 +59,12 @@ fn place_line(line: Line<'_>, table: Table) -> Line<'_> {
 }
 
 // The tally of the member at a place, 0 where it is free.
-fn tally_at(table: Table, place: usize) -> u64 {
+fn tally_at(table: &Table, place: usize) -> u64 {
     u64::from(table.member_at(place).member.tally)
 }
 
 // The tally at the place that a line has, if a member is there.
-fn tally_line(line: Line<'_>, table: Table) -> Line<'_> {
+fn tally_line<'a>(line: Line<'a>, table: &Table) -> Line<'a> {
     let place = line.values[0];
     if table.member_at(place as usize).held == 0 {
         return line.came(Form::TallyNone, &[place]);
@@ -133,28 +133,36 @@ pub(crate) fn unchanged<'a>(
     }
     let place = line.values[0];
     let members = are_other_members(table, earlier, Some(place as usize));
-    let tally = tally_at(table, place as usize);
+    let tally = tally_at(&table, place as usize);
     line.came(line.form, &[place, tally, u64::from(members), target])
 }
 
-// What came of a step that calls nothing.
-pub(crate) fn look<'a>(table: Table, line: Line<'a>, scene: Scene, record: Record) -> Line<'a> {
-    let choice = choice_at(table, scene.reading);
+// What came of a step that asks for the target.
+fn look_at_target<'a>(table: &Table, line: Line<'a>, scene: Scene) -> Line<'a> {
+    let choice = choice_at(*table, scene.reading);
     let target = choice.unwrap_or(NO_TARGET);
     let form = line.form;
     match form {
-        Form::Members => line.came(form, &[u64::from(table.count_members())]),
-        Form::Place | Form::PlaceFree => place_line(line, table),
-        Form::Tally | Form::TallyNone => tally_line(line, table),
         Form::Choose | Form::ChooseRefused => choice_line(line, choice, scene),
         Form::Lateness => line.came(form, &[lateness(target, scene.reading)]),
         Form::Age => line.came(form, &[ntp_age(scene.reading.ntp, target.received)]),
         Form::Delay => line.came(form, &[delay_of(target)]),
-        Form::WriteReport => line.with_value(0, u64::from(is_other_report(record, line.text))),
         // The settings of the target.
         _ => {
             let other = are_other_settings(target, line.value32(0), line.text);
             line.with_value(1, u64::from(other))
         }
+    }
+}
+
+// What came of a step that calls nothing. The table is lent, and chosen among only where the target is asked for.
+pub(crate) fn look<'a>(table: &Table, line: Line<'a>, scene: Scene, record: Record) -> Line<'a> {
+    let form = line.form;
+    match form {
+        Form::Members => line.came(form, &[u64::from(table.count_members())]),
+        Form::Place | Form::PlaceFree => place_line(line, table),
+        Form::Tally | Form::TallyNone => tally_line(line, table),
+        Form::WriteReport => line.with_value(0, u64::from(is_other_report(record, line.text))),
+        _ => look_at_target(table, line, scene),
     }
 }

@@ -75,9 +75,10 @@ mod scene;
 mod settings;
 mod words;
 
-use crate::calls::{Told, call, read_datagram};
+use crate::calls::{Told, call, take_datagram};
 use crate::forms::{Form, matched};
 use crate::group_lines::line_step;
+use crate::items::look_at_items;
 use crate::lines::Line;
 use crate::looks::{look, unchanged};
 use crate::print::print_came;
@@ -145,23 +146,9 @@ impl<'a> Bench<'a> {
         }
     }
 
-    // The table after a step, and its line with what came.
-    fn told(&self, line: Line<'a>) -> Told<'a> {
-        let table = self.table;
-        let scene = self.scene;
-        match line.form {
-            Form::Table => Told {
-                table: usual_table(),
-                line,
-            },
-            Form::Reading
-            | Form::Stream
-            | Form::Datagram
-            | Form::Recording
-            | Form::Append
-            | Form::Cut
-            | Form::ReducedSize
-            | Form::NoReducedSize => Told { table, line },
+    // Makes a step, and gives its line with what came. Only where the table may change is it handed on.
+    fn make(&mut self, line: Line<'a>) -> Line<'a> {
+        let told = match line.form {
             Form::Open
             | Form::Report
             | Form::Farewell
@@ -169,27 +156,41 @@ impl<'a> Bench<'a> {
             | Form::SendFarewell
             | Form::Fill
             | Form::Sweep
-            | Form::Burst => call(table, line, scene),
-            Form::Check(packet, _) => check_settings(table, line, packet, scene),
-            Form::Take
-            | Form::TakeNone
-            | Form::TakeRefused
-            | Form::Items
-            | Form::ItemsRefused
-            | Form::ItemReport
-            | Form::ItemSettings
-            | Form::ItemFarewell
-            | Form::ItemRefused => read_datagram(table, line, scene),
-            _ => Told {
-                table,
-                line: self.looked(line),
+            | Form::Burst => call(self.table, line, self.scene),
+            Form::Check(packet, _) => check_settings(self.table, line, packet, self.scene),
+            Form::Take | Form::TakeNone | Form::TakeRefused => take_datagram(
+                self.table, line, self.scene,
+            ),
+            Form::Table => Told {
+                table: usual_table(),
+                line,
             },
+            _ => return self.looked(line),
+        };
+        if line.form.is_call() {
+            self.earlier = self.table;
         }
+        self.table = told.table;
+        told.line
     }
 
     // The line with what came of a step that leaves the table as it is.
     fn looked(&self, line: Line<'a>) -> Line<'a> {
         match line.form {
+            Form::Reading
+            | Form::Stream
+            | Form::Datagram
+            | Form::Recording
+            | Form::Append
+            | Form::Cut
+            | Form::ReducedSize
+            | Form::NoReducedSize => line,
+            Form::Items
+            | Form::ItemsRefused
+            | Form::ItemReport
+            | Form::ItemSettings
+            | Form::ItemFarewell
+            | Form::ItemRefused => look_at_items(line, self.scene),
             Form::Unchanged | Form::UnchangedBut => unchanged(
                 self.table,
                 self.earlier,
@@ -203,32 +204,28 @@ impl<'a> Bench<'a> {
             | Form::ReplayEntry
             | Form::ReplayTarget
             | Form::ReplayNoTarget => replay_step(line, &self.recording),
-            _ => look(self.table, line, self.scene, self.record),
+            _ => look(&self.table, line, self.scene, self.record),
         }
     }
 
-    // What there is behind a step, whose answer came so.
-    fn settle(&mut self, line: Line<'a>, told: Told<'a>) {
-        if line.form.is_call() {
-            self.earlier = self.table;
-        }
-        self.table = told.table;
+    // What there is behind a step, beside the table, whose answer came so.
+    fn settle(&mut self, line: Line<'a>, came: Line<'a>) {
         if matches!(line.form, Form::Report | Form::SendReport) {
             self.record = self.scene.record_of(line);
         }
-        self.scene = self.scene.behind(told.line);
+        self.scene = self.scene.behind(came);
         self.recording.step(line);
     }
 
     // Runs a step, and prints what came and whether it is what the text expects. Without an answer the step is printed
     // as it stands.
     fn run_step(&mut self, rt: &impl Print, line: Line<'a>, text: &[u8]) -> io::Result<()> {
-        let told = self.told(line);
+        let came = self.make(line);
         if line.form.sentence().is_empty() {
             print_as_it_stands(rt, text)?;
         } else {
-            let is_expected = told.line == line;
-            print_came(rt, told.line)?;
+            let is_expected = came == line;
+            print_came(rt, came)?;
             println!(rt;
                 "{}",
                 if is_expected {
@@ -239,7 +236,7 @@ impl<'a> Bench<'a> {
             )?;
             self.score = self.score.with(is_expected);
         }
-        self.settle(line, told);
+        self.settle(line, came);
         Ok(())
     }
 

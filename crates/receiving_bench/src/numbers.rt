@@ -1,25 +1,34 @@
 // What the text's words stand for. Each function reads one off the front of a text, and gives what is behind it.
-ghost use Rattle.std.specs.Prelude.{◌≤◌};
-
 use origin::Origin;
-use std::str;
 
 // The bytes of an IPv4-mapped address in front of those of the IPv4 address.
 const MAPPED: [u8; 12] = [0, 0, 0, 0, 0, 0, 0, 0, 0, 0, 255, 255];
 
-// A number of 32 bits in at most so many digits; a letter among them is upper-case.
-pub(crate) fn digits(text: &[u8], base: u32, most: usize) -> Option<(u32, &[u8])>
-    requires low { 2 ≤ base }
-    requires high { base ≤ 36 }
-{
-    let count = text
-        .iter()
-        .take(most)
-        .take_while(|c| (**c as char).is_digit(base) && !c.is_ascii_lowercase())
-        .count();
-    let (word, rest) = text.split_at_checked(count)?;
-    let value = u32::from_str_radix(str::from_utf8(word).ok()?, base).ok()?;
-    Some((value, rest))
+// The digit that a character is, of a base up to 16; a letter is upper-case.
+fn digit(c: u8, base: u32) -> Option<u32> {
+    let digit = match c {
+        b'0'..=b'9' => u32::from(c.wrapping_sub(b'0')),
+        b'A'..=b'F' => u32::from(c.wrapping_sub(b'A')).wrapping_add(10),
+        _ => return None,
+    };
+    (digit < base).then_some(digit)
+}
+
+// A number of 32 bits in at most so many digits, in one pass: the words of a datagram are read so at each of its steps.
+pub(crate) fn digits(text: &[u8], base: u32, most: usize) -> Option<(u32, &[u8])> {
+    let mut value: u32 = 0;
+    let mut rest = text;
+    for _ in 0..most {
+        let Some((c, behind)) = rest.split_first() else {
+            break;
+        };
+        let Some(digit) = digit(*c, base) else {
+            break;
+        };
+        value = value.checked_mul(base)?.checked_add(digit)?;
+        rest = behind;
+    }
+    (rest.len() < text.len()).then_some((value, rest))
 }
 
 // A number of 32 bits, decimal or hex behind 0x.
