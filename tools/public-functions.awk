@@ -3,8 +3,22 @@
 #     FILE:LINE NAME ENSURES REQUIRES
 #
 # NAME is the function's, with its type's before it for a method (Type::name). ENSURES and REQUIRES count the clauses
-# before the function's body. A function is public where `pub` stands alone: one marked `pub(crate)` is not. Comments
-# and literals are passed over, so nothing in them counts.
+# before the function's body. A function is public where `pub` stands alone: one marked `pub(crate)` is not. So is one
+# of a trait's impl, where ENSURES counts the ghost member that states what it does too: the one of its name (`ghost eq`),
+# and `ghost output` for `fmt`. Comments and literals are passed over, so nothing in them counts.
+
+# Ends an impl: of a trait's, the ghost members may stand behind the functions.
+function close_impl(i, parts)
+{
+    for (i = 1; i <= holds; i++) {
+        split(held[i], parts, "::")
+        if (parts[2] in stated || (parts[2] == "fmt" && "output" in stated)) ensures[i]++
+        print held[i], ensures[i], requires[i]
+    }
+    split("", stated)
+    holds = trait = 0
+    type = ""
+}
 
 # Takes the next word or sign of the source.
 function token(t)
@@ -27,7 +41,13 @@ function token(t)
             braces = 0
             state = "clause"
         } else if (brackets == 0 && (t == "{" || t == ";")) {
-            if (public) print place, name, clauses["ensures"], clauses["requires"]
+            if (public && trait) {
+                held[++holds] = place " " name
+                ensures[holds] = clauses["ensures"]
+                requires[holds] = clauses["requires"]
+            } else if (public) {
+                print place, name, clauses["ensures"], clauses["requires"]
+            }
             public = 0
             state = ""
             if (t == "{") depth++
@@ -38,7 +58,7 @@ function token(t)
         brackets = 0
         state = "signature"
     } else if (state == "impl") {
-        # `impl Type {` or `impl<'a> Type<'a> {`
+        # `impl Type {`, `impl<'a> Type<'a> {` or `impl Trait for Type {`
         if (t == "<") {
             angles++
         } else if (t == ">") {
@@ -47,14 +67,21 @@ function token(t)
             outside = depth
             depth++
             state = ""
+        } else if (angles == 0 && t == "for") {
+            trait = 1
+            type = ""
         } else if (angles == 0 && type == "") {
             type = t
         }
     } else if (state == "use") {
         if (t == ";") state = ""
+    } else if (state == "ghost") {
+        if (t != "use") stated[t] = 1
+        state = (t == "use") ? "use" : ""
     } else if (t == "pub") {
         public = 1
     } else if (t == "fn") {
+        if (trait && depth == outside + 1) public = 1
         place = FILENAME ":" FNR
         state = "name"
     } else if (t != "extern" && t != "\"" && t != "const" && t != "unsafe") {
@@ -64,13 +91,15 @@ function token(t)
             depth++
         } else if (t == "}") {
             depth--
-            if (depth == outside) type = ""
+            if (depth == outside) close_impl()
         } else if (t == "use") {
             state = "use"
         } else if (t == "impl") {
             type = ""
             angles = 0
             state = "impl"
+        } else if (t == "ghost" && trait && depth == outside + 1) {
+            state = "ghost"
         }
     }
 }
